@@ -30,13 +30,18 @@ integers_given d = by_array (as_array d)
     by_array (Some ds) = refl
 
 -- the next array was read
-pub next_list : (vs : List Value) (i : ℕ) (v : Value) (front : List (List ℤ)) (list : List ℤ) (all : Option (List (List ℤ))) → i < length vs → given faults.Kind (integers_at (view (get_or vs i v))) ≡ Ok list
-    → behind front (each_item integers_at (items_view (drop i vs))) ≡ all → behind (front ++ list ∷ []) (each_item integers_at (items_view (drop (i + 1) vs))) ≡ all
+pub next_list : (vs : List Value) (i : ℕ) (v : Value) (front : List (List ℤ)) (list : List ℤ)
+    (all : Option (List (List ℤ))) → i < length vs → given faults.Kind (integers_at (view (get_or vs i v))) ≡ Ok list
+    → behind front (each_item integers_at (items_view (drop i vs))) ≡ all
+    → behind (front ++ list ∷ []) (each_item integers_at (items_view (drop (i + 1) vs))) ≡ all
 next_list vs i v front list all within read held =
-    more_items integers_at vs i v front list all within (given_some faults.Kind (integers_at (view (get_or vs i v))) list read) held
+    more_items integers_at vs i v front list all within (given_some faults.Kind (integers_at (view (get_or vs i v)))
+    list read) held
 
 -- it was refused
-pub no_list : (vs : List Value) (i : ℕ) (v : Value) (front : List (List ℤ)) (refusal : Refusal) (all : Option (List (List ℤ))) → i < length vs → IsRefusedBy refusal (given faults.Kind (integers_at (view (get_or vs i v))))
+pub no_list : (vs : List Value) (i : ℕ) (v : Value) (front : List (List ℤ)) (refusal : Refusal)
+    (all : Option (List (List ℤ))) → i < length vs
+    → IsRefusedBy refusal (given faults.Kind (integers_at (view (get_or vs i v))))
     → behind front (each_item integers_at (items_view (drop i vs))) ≡ all → IsRefusedBy refusal (given faults.Kind all)
 no_list vs i v front refusals.Memory all within refused held = tt
 no_list vs i v front (refusals.Fault f) all within refused held =
@@ -45,11 +50,14 @@ no_list vs i v front (refusals.Fault f) all within refused held =
     ap (given faults.Kind) none ∙ ap Err means.1
 
 -- the next entry was read, or is none
-pub next_entry : (lists : List (List ℤ)) (i : ℕ) (d : List ℤ) (front : List Entry) (entry : Entry) (all : Option (List Entry)) → i < length lists → entry_of (get_or lists i d) ≡ Some entry
-    → behind front (each_of entry_of (drop i lists)) ≡ all → behind (front ++ entry ∷ []) (each_of entry_of (drop (i + 1) lists)) ≡ all
+pub next_entry : (lists : List (List ℤ)) (i : ℕ) (d : List ℤ) (front : List Entry) (entry : Entry)
+    (all : Option (List Entry)) → i < length lists → entry_of (get_or lists i d) ≡ Some entry
+    → behind front (each_of entry_of (drop i lists)) ≡ all → behind (front ++ entry ∷ []) (each_of entry_of
+    (drop (i + 1) lists)) ≡ all
 next_entry lists i d front entry all within found held = more_of entry_of lists i d front entry all within found held
 
-pub no_entry : (lists : List (List ℤ)) (i : ℕ) (d : List ℤ) (front : List Entry) (all : Option (List Entry)) → i < length lists → entry_of (get_or lists i d) ≡ None
+pub no_entry : (lists : List (List ℤ)) (i : ℕ) (d : List ℤ) (front : List Entry) (all : Option (List Entry))
+    → i < length lists → entry_of (get_or lists i d) ≡ None
     → behind front (each_of entry_of (drop i lists)) ≡ all → all ≡ None
 no_entry lists i d front all within found held = none_of entry_of lists i d front all within found held
 

@@ -13,7 +13,8 @@ use Rattle.argo_grid.proofs.Sharing.{in_range_means}
 use Rattle.argo_grid.proofs.Ways.{links_counted}
 
 -- the next entry has no fault
-pub next_checked : (s : Schedule) (es : List Entry) (i : ℕ) (d : Entry) (all : Result (Unit {0}) GridFault) → i < length es → fault_of s (take i es) (get_or es i d) ≡ None
+pub next_checked : (s : Schedule) (es : List Entry) (i : ℕ) (d : Entry) (all : Result (Unit {0}) GridFault)
+    → i < length es → fault_of s (take i es) (get_or es i d) ≡ None
     → checked_from s (take i es) (drop i es) ≡ all → checked_from s (take (i + 1) es) (drop (i + 1) es) ≡ all
 next_checked s es i d all within none held =
     ap (λ front. checked_from s front (drop (i + 1) es)) (take_more es i d within)
@@ -21,12 +22,14 @@ next_checked s es i d all within none held =
     ∙ held
 
 -- it has one
-pub next_faulty : (s : Schedule) (es : List Entry) (i : ℕ) (d : Entry) (fault : GridFault) (all : Result (Unit {0}) GridFault) → i < length es → fault_of s (take i es) (get_or es i d) ≡ Some fault
+pub next_faulty : (s : Schedule) (es : List Entry) (i : ℕ) (d : Entry) (fault : GridFault)
+    (all : Result (Unit {0}) GridFault) → i < length es → fault_of s (take i es) (get_or es i d) ≡ Some fault
     → checked_from s (take i es) (drop i es) ≡ all → all ≡ Err fault
 next_faulty s es i d fault all within found held = sym held ∙ rw (drop_more es i d within, found) refl
 
 -- no entry is left
-pub all_checked : (s : Schedule) (es : List Entry) (i : ℕ) (all : Result (Unit {0}) GridFault) → length es ≤ i → checked_from s (take i es) (drop i es) ≡ all → all ≡ Ok tt
+pub all_checked : (s : Schedule) (es : List Entry) (i : ℕ) (all : Result (Unit {0}) GridFault) → length es ≤ i
+    → checked_from s (take i es) (drop i es) ≡ all → all ≡ Ok tt
 all_checked s es i all over held = sym held ∙ rw (drop_of_length-le es over) refl
 
 -- within the grid a route has at most 32 links
@@ -48,5 +51,6 @@ few_links s e bounded is =
     let fourth = div_below e.to g.columns g.rows bounded.grid.columns (omega (arith, range.to)) in
     omega (arith, links_counted (route g e.from e.to) (distance (router_of g e.from) (router_of g e.to)) refl)
 
-pub few_cycles : (s : Schedule) (e : Entry) (links : ℕ) → IsBounded s → in_range s e ≡ true → links ≡ length (links_for s.grid e) → links ≤ 32
+pub few_cycles : (s : Schedule) (e : Entry) (links : ℕ) → IsBounded s → in_range s e ≡ true → links
+    ≡ length (links_for s.grid e) → links ≤ 32
 few_cycles s e links bounded is same = omega (arith, few_links s e bounded is)

@@ -20,10 +20,12 @@ faulty_out : (s : Schedule) (i : ℕ) → IsOutOfRange s i → Faulty s i
 faulty_out s i h = record { entry = h.entry; next = h.next; faulty = λ good. h.outside good.in_range }
 
 faulty_late : (s : Schedule) (i needs : ℕ) → IsLate s i needs → Faulty s i
-faulty_late s i needs h = record { entry = h.entry; next = h.next; faulty = λ good. h.late (good.on_time ∙ sym h.travels) }
+faulty_late s i needs h =
+    record { entry = h.entry; next = h.next; faulty = λ good. h.late (good.on_time ∙ sym h.travels) }
 
 faulty_shared : (s : Schedule) (i j : ℕ) → IsShared s i j → Faulty s i
-faulty_shared s i j h = record { entry = h.entry; next = h.next; faulty = λ good. good.alone j h.other h.earlier h.there h.meet }
+faulty_shared s i j h =
+    record { entry = h.entry; next = h.next; faulty = λ good. good.alone j h.other h.earlier h.there h.meet }
 
 one_faulty : (s : Schedule) (i j : ℕ) → Faulty s i → Faulty s j → i ≡ j
 one_faulty s i j h k = elim (cases_lt i j) [
@@ -53,10 +55,12 @@ one_fault : (s : Schedule) (f g : GridFault) → IsFirstFault s f → IsFirstFau
 one_fault s (Range i) (Range j) h k = ap Range (one_faulty s i j (faulty_out s i h) (faulty_out s j k))
 one_fault s (Range i) (Late j needs) h k =
     let place = one_faulty s i j (faulty_out s i h) (faulty_late s j needs k) in
-    absurd (h.outside (subst (IsInRange s) (sym (one_entry s i j h.entry k.entry place h.next.here k.next.here)) k.in_range))
+    absurd (h.outside (subst (IsInRange s) (sym (one_entry s i j h.entry k.entry place h.next.here k.next.here))
+    k.in_range))
 one_fault s (Range i) (Shared j o) h k =
     let place = one_faulty s i j (faulty_out s i h) (faulty_shared s j o k) in
-    absurd (h.outside (subst (IsInRange s) (sym (one_entry s i j h.entry k.entry place h.next.here k.next.here)) k.in_range))
+    absurd (h.outside (subst (IsInRange s) (sym (one_entry s i j h.entry k.entry place h.next.here k.next.here))
+    k.in_range))
 one_fault s (Late i needs) (Range j) h k =
     let place = one_faulty s i j (faulty_late s i needs h) (faulty_out s j k) in
     absurd (k.outside (subst (IsInRange s) (one_entry s i j h.entry k.entry place h.next.here k.next.here) h.in_range))
@@ -68,14 +72,16 @@ one_fault s (Late i needs) (Late j needs') h k =
 one_fault s (Late i needs) (Shared j o) h k =
     let place = one_faulty s i j (faulty_late s i needs h) (faulty_shared s j o k) in
     let entry = one_entry s i j h.entry k.entry place h.next.here k.next.here in
-    absurd (h.late (ap (λ (e : Entry). e.arrive) entry ∙ k.on_time ∙ ap (travel_time s.grid) (sym entry) ∙ sym h.travels))
+    absurd (h.late (ap (λ (e : Entry). e.arrive) entry ∙ k.on_time ∙ ap (travel_time s.grid) (sym entry)
+    ∙ sym h.travels))
 one_fault s (Shared i o) (Range j) h k =
     let place = one_faulty s i j (faulty_shared s i o h) (faulty_out s j k) in
     absurd (k.outside (subst (IsInRange s) (one_entry s i j h.entry k.entry place h.next.here k.next.here) h.in_range))
 one_fault s (Shared i o) (Late j needs) h k =
     let place = one_faulty s i j (faulty_shared s i o h) (faulty_late s j needs k) in
     let entry = one_entry s i j h.entry k.entry place h.next.here k.next.here in
-    absurd (k.late (ap (λ (e : Entry). e.arrive) (sym entry) ∙ h.on_time ∙ ap (travel_time s.grid) entry ∙ sym k.travels))
+    absurd (k.late (ap (λ (e : Entry). e.arrive) (sym entry) ∙ h.on_time ∙ ap (travel_time s.grid) entry
+    ∙ sym k.travels))
 one_fault s (Shared i o) (Shared j o') h k =
     let place = one_faulty s i j (faulty_shared s i o h) (faulty_shared s j o' k) in
     let entry = one_entry s i j h.entry k.entry place h.next.here k.next.here in
@@ -83,7 +89,8 @@ one_fault s (Shared i o) (Shared j o') h k =
     λ a. Shared (place a) (same a)
 
 -- so the check answers a fault exactly where it is the first one
-exactly : (s : Schedule) (answer : Result (Unit {0}) GridFault) (fault : GridFault) → 1 ≤ s.length → Meaning s answer → (answer ≡ Err fault) ↔ IsFirstFault s fault
+exactly : (s : Schedule) (answer : Result (Unit {0}) GridFault) (fault : GridFault) → 1 ≤ s.length → Meaning s answer
+    → (answer ≡ Err fault) ↔ IsFirstFault s fault
 exactly s (Ok u) fault some means = (
   (λ same. absurd (let bad : Ok u ≡ Err fault = same in cc)),
   (λ first. absurd (never_faulty s (correct_of_faultless s some means) fault first)),
@@ -93,5 +100,6 @@ exactly s (Err found) fault some means = (
   (λ first. ap Err (one_fault s found fault means first)),
 )
 
-pub fault_exactly : (s : Schedule) (answer : Result (Unit {0}) GridFault) (fault : GridFault) → 1 ≤ s.length → answer ≡ checked s → (answer ≡ Err fault) ↔ IsFirstFault s fault
+pub fault_exactly : (s : Schedule) (answer : Result (Unit {0}) GridFault) (fault : GridFault) → 1 ≤ s.length → answer
+    ≡ checked s → (answer ≡ Err fault) ↔ IsFirstFault s fault
 fault_exactly s answer fault some same = exactly s answer fault some (subst (Meaning s) (sym same) (meaning s))

@@ -48,7 +48,8 @@ nearer from to steps fits = elim (cases_lt from to) [
 ]
 
 -- along the row
-pub along_row : (links : ℕ) (at to : Router) → links ≤ abs_diff at.column to.column → router_after links at to ≡ record { column = moved links at.column to.column; row = at.row }
+pub along_row : (links : ℕ) (at to : Router) → links ≤ abs_diff at.column to.column → router_after links at to
+    ≡ record { column = moved links at.column to.column; row = at.row }
 along_row zero at to fits = refl
 along_row (suc links) at to fits =
     let on : (at.column == to.column) ≡ false = ne_eqb at.column to.column (λ same. omega (arith, same)) in
@@ -57,7 +58,8 @@ along_row (suc links) at to fits =
     ap (λ r. router_after links r to) step ∙ along_row links next to (nearer at.column to.column links fits)
 
 -- within the column
-column_only : (links : ℕ) (at to : Router) → at.column ≡ to.column → router_after links at to ≡ record { column = to.column; row = moved links at.row to.row }
+column_only : (links : ℕ) (at to : Router) → at.column ≡ to.column → router_after links at to
+    ≡ record { column = to.column; row = moved links at.row to.row }
 column_only zero at to same = λ i. record { column = same i; row = at.row }
 column_only (suc links) at to same =
     let on : (at.column == to.column) ≡ true = eq-eqb at.column to.column same in
@@ -67,10 +69,12 @@ column_only (suc links) at to same =
 
 after_sum : (a b : ℕ) (at to : Router) → router_after (a + b) at to ≡ router_after b (router_after a at to) to
 after_sum zero b at to = let e : zero + b ≡ b = omega arith in ap (λ n. router_after n at to) e
-after_sum (suc a) b at to = let e : suc a + b ≡ suc (a + b) = omega arith in ap (λ n. router_after n at to) e ∙ after_sum a b (next_router at to) to
+after_sum (suc a) b at to = let e : suc a + b ≡ suc (a + b) = omega arith in ap (λ n. router_after n at to) e
+    ∙ after_sum a b (next_router at to) to
 
 -- past the row, along the column
-pub along_column : (links : ℕ) (at to : Router) → abs_diff at.column to.column ≤ links → router_after links at to ≡ record { column = to.column; row = moved (links - abs_diff at.column to.column) at.row to.row }
+pub along_column : (links : ℕ) (at to : Router) → abs_diff at.column to.column ≤ links → router_after links at to
+    ≡ record { column = to.column; row = moved (links - abs_diff at.column to.column) at.row to.row }
 along_column links at to past =
     let row : ℕ = abs_diff at.column to.column in
     let whole : links ≡ row + (links - row) = omega arith in
@@ -92,14 +96,16 @@ how_far links at to fits = elim (cases_lt links (abs_diff at.column to.column)) 
 ]
 
 -- the links between routers in their order
-link_from : (count k : ℕ) (at to : Router) (others : List Link) → k < count → slice_get (links_from count at to ++ others) k ≡ Some (Between (router_after k at to) (router_after (suc k) at to))
+link_from : (count k : ℕ) (at to : Router) (others : List Link) → k < count → slice_get (links_from count at to
+    ++ others) k ≡ Some (Between (router_after k at to) (router_after (suc k) at to))
 link_from zero k at to others within = absurd (omega arith)
 link_from (suc count) zero at to others within = refl
 link_from (suc count) (suc k) at to others within = link_from count k (next_router at to) to others (omega arith)
 
-link_behind : (count : ℕ) (at to : Router) (link : Link) → slice_get (links_from count at to ++ link ∷ []) count ≡ Some link
-link_behind zero at to link = refl
-link_behind (suc count) at to link = link_behind count (next_router at to) to link
+link_after : (count : ℕ) (at to : Router) (link : Link) → slice_get (links_from count at to ++ link ∷ []) count
+    ≡ Some link
+link_after zero at to link = refl
+link_after (suc count) at to link = link_after count (next_router at to) to link
 
 length-links_from : (count : ℕ) (at to : Router) → length (links_from count at to) ≡ count
 length-links_from zero at to = refl
@@ -108,14 +114,20 @@ length-links_from (suc count) at to = ap suc (length-links_from count (next_rout
 pub links_counted : (r : Route) (hops : ℕ) → hops ≡ distance r.start r.end → hops + 2 ≡ length (links_of r)
 unfolding links_of
 links_counted r hops same =
-    omega (arith, length-append (links_from (distance r.start r.end) r.start r.end) (Eject r.to ∷ []), length-links_from (distance r.start r.end) r.start r.end)
+    omega (
+      arith,
+      length-append (links_from (distance r.start r.end) r.start r.end) (Eject r.to ∷ []),
+      length-links_from
+          (distance r.start r.end) r.start r.end,
+    )
 
 -- the three kinds of links by their places
 pub link_first : (r : Route) (place : ℕ) → place ≡ 0 → slice_get (links_of r) place ≡ Some (Inject r.from)
 unfolding links_of
 link_first r place first = ap (slice_get (links_of r)) first
 
-link_at : (r : Route) (place k : ℕ) → place ≡ suc k → slice_get (links_of r) place ≡ slice_get (links_from (distance r.start r.end) r.start r.end ++ Eject r.to ∷ []) k
+link_at : (r : Route) (place k : ℕ) → place ≡ suc k → slice_get (links_of r) place
+    ≡ slice_get (links_from (distance r.start r.end) r.start r.end ++ Eject r.to ∷ []) k
 unfolding links_of
 link_at r place k e = ap (slice_get (links_of r)) e
 
@@ -128,13 +140,18 @@ link_between r place from to some within first second =
     ∙ link_from (distance r.start r.end) (place - 1) r.start r.end (Eject r.to ∷ []) (omega arith)
     ∙ (λ i. Some (Between (sym first i) ((ap (λ n. router_after n r.start r.end) (sym next) ∙ sym second) i)))
 
-pub link_last : (r : Route) (place : ℕ) → distance r.start r.end < place → place < length (links_of r) → slice_get (links_of r) place ≡ Some (Eject r.to)
+pub link_last : (r : Route) (place : ℕ) → distance r.start r.end < place → place < length (links_of r)
+    → slice_get (links_of r) place ≡ Some (Eject r.to)
 link_last r place past within =
     let next : place ≡ suc (distance r.start r.end) = omega (arith, links_counted r (distance r.start r.end) refl) in
-    link_at r place (distance r.start r.end) next ∙ link_behind (distance r.start r.end) r.start r.end (Eject r.to)
+    link_at r place (distance r.start r.end) next ∙ link_after (distance r.start r.end) r.start r.end (Eject r.to)
 
 -- each link of a route stands at one place of it
-place_before : (r : Route) (place : ℕ) (link : Link) → slice_get (links_of r) place ≡ Some link → ((place ≡ 0) × (link ≡ Inject r.from)) ⊎ (((place ≢ 0) × (place ≤ distance r.start r.end) × (link ≡ Between (router_after (place - 1) r.start r.end) (router_after place r.start r.end))) ⊎ ((place ≡ distance r.start r.end + 1) × (link ≡ Eject r.to)))
+place_before : (r : Route) (place : ℕ) (link : Link) → slice_get (links_of r) place ≡ Some link
+    → ((place ≡ 0) × (link ≡ Inject r.from))
+    ⊎ (((place ≢ 0) × (place ≤ distance r.start r.end)
+    × (link ≡ Between (router_after (place - 1) r.start r.end) (router_after place r.start r.end)))
+    ⊎ ((place ≡ distance r.start r.end + 1) × (link ≡ Eject r.to)))
 place_before r place link here =
     let within : place < length (links_of r) = slice_get_within (links_of r) place link here in
     elim (cases_eq place 0) [
@@ -143,12 +160,14 @@ place_before r place link here =
         | inl past ↦ let there = link_last r place past within in
             inr (inr (omega (arith, links_counted r (distance r.start r.end) refl), cc))
         | inr between ↦
-            let there = link_between r place (router_after (place - 1) r.start r.end) (router_after place r.start r.end) some between refl refl in
+            let there = link_between r place (router_after (place - 1) r.start r.end) (router_after place r.start r.end)
+            some between refl refl in
             inr (inl (some, between, cc))
       ]
     ]
 
-pub one_place : (r : Route) (place other : ℕ) (link : Link) → slice_get (links_of r) place ≡ Some link → slice_get (links_of r) other ≡ Some link → place ≡ other
+pub one_place : (r : Route) (place other : ℕ) (link : Link) → slice_get (links_of r) place ≡ Some link
+    → slice_get (links_of r) other ≡ Some link → place ≡ other
 one_place r place other link here there = elim (place_before r place link here) [
   | inl first ↦ elim (place_before r other link there) [
     | inl first' ↦ first.0 ∙ sym first'.0
@@ -158,9 +177,12 @@ one_place r place other link here there = elim (place_before r place link here) 
   | inr (inl between) ↦ elim (place_before r other link there) [
     | inl first' ↦ let a = between.2 in let b = first'.1 in cc
     | inr (inl between') ↦
-        let same : router_after (place - 1) r.start r.end ≡ router_after (other - 1) r.start r.end = let a = between.2 in let b = between'.2 in cc in
-        let far : distance r.start (router_after (place - 1) r.start r.end) ≡ place - 1 = how_far (place - 1) r.start r.end (omega (arith, between.1)) in
-        let far' : distance r.start (router_after (other - 1) r.start r.end) ≡ other - 1 = how_far (other - 1) r.start r.end (omega (arith, between'.1)) in
+        let same : router_after (place - 1) r.start r.end ≡ router_after (other - 1) r.start r.end =
+        let a = between.2 in let b = between'.2 in cc in
+        let far : distance r.start (router_after (place - 1) r.start r.end) ≡ place - 1 =
+        how_far (place - 1) r.start r.end (omega (arith, between.1)) in
+        let far' : distance r.start (router_after (other - 1) r.start r.end) ≡ other - 1 =
+        how_far (other - 1) r.start r.end (omega (arith, between'.1)) in
         let equal : place - 1 ≡ other - 1 = sym far ∙ ap (distance r.start) same ∙ far' in
         let some : 0 < place = positive place between.0 in
         let some' : 0 < other = positive other between'.0 in

@@ -41,14 +41,17 @@ each_half : (half : ℕ) → (half ≡ 2 * (half / 2)) ⊎ (half ≡ 2 * (half /
 each_half half = elim (cases_eq (half % 2) 0) [ inl even ↦ inl (omega arith) | inr odd ↦ inr (omega arith) ]
 
 -- where what acts is a delivery or an injection not before `next`, nothing acts before `next`
-least_act : (x : Interface) (from next : ℕ) → ((cycle : ℕ) → comes x cycle ≡ true → next ≤ 2 * cycle) → ((cycle : ℕ) → from / 2 ≤ cycle → sends x cycle ≡ true → next ≤ 2 * cycle + 1) → (half : ℕ) → from ≤ half → acts x half ≡ true → next ≤ half
+least_act : (x : Interface) (from next : ℕ) → ((cycle : ℕ) → comes x cycle ≡ true → next ≤ 2 * cycle)
+    → ((cycle : ℕ) → from / 2 ≤ cycle → sends x cycle ≡ true → next ≤ 2 * cycle + 1) → (half : ℕ) → from ≤ half
+    → acts x half ≡ true → next ≤ half
 least_act x from next deliveries injections half after here = elim (each_half half) [
   | inl even ↦ omega (arith, even, deliveries (half / 2) (sym (acts_even x half (half / 2) even) ∙ here))
   | inr odd ↦ omega (arith, odd, injections (half / 2) (omega arith) (sym (acts_odd x half (half / 2) odd) ∙ here))
 ]
 
 -- the packet that was sent first comes next, where nothing is injected before its cycle
-pub next_is_delivery : (n core from : ℕ) (x : Interface) (p : Packet) → IsFirst n core from x.under_way p → ((cycle : ℕ) → from / 2 ≤ cycle → sends x cycle ≡ true → p.due ≤ cycle) → IsNext (acts x) from (2 * p.due)
+pub next_is_delivery : (n core from : ℕ) (x : Interface) (p : Packet) → IsFirst n core from x.under_way p
+    → ((cycle : ℕ) → from / 2 ≤ cycle → sends x cycle ≡ true → p.due ≤ cycle) → IsNext (acts x) from (2 * p.due)
 next_is_delivery n core from x p first none = record {
   passes = acts_even x (2 * p.due) p.due refl ∙ first_comes n core from x.under_way p first;
   from = first.after;
@@ -58,7 +61,8 @@ next_is_delivery n core from x p first none = record {
 }
 
 -- the next injection comes next, where nothing is delivered before it or in its cycle
-pub next_is_injection : (from cycle : ℕ) (x : Interface) → IsNext (sends x) (from / 2) cycle → ((due : ℕ) → comes x due ≡ true → cycle < due) → IsNext (acts x) from (2 * cycle + 1)
+pub next_is_injection : (from cycle : ℕ) (x : Interface) → IsNext (sends x) (from / 2) cycle
+    → ((due : ℕ) → comes x due ≡ true → cycle < due) → IsNext (acts x) from (2 * cycle + 1)
 next_is_injection from cycle x h none = record {
   passes = acts_odd x (2 * cycle + 1) cycle refl ∙ h.passes;
   from = omega (arith, h.from);
@@ -68,7 +72,8 @@ next_is_injection from cycle x h none = record {
 }
 
 -- what the next act says of deliveries and injections
-pub next_sends : (from cycle other : ℕ) (x : Interface) → IsNext (acts x) from (2 * cycle + 1) → IsNext (sends x) (from / 2) other → other ≡ cycle
+pub next_sends : (from cycle other : ℕ) (x : Interface) → IsNext (acts x) from (2 * cycle + 1)
+    → IsNext (sends x) (from / 2) other → other ≡ cycle
 next_sends from cycle other x h next =
     let here : sends x cycle ≡ true = sym (acts_odd x (2 * cycle + 1) cycle refl) ∙ h.passes in
     let before : other ≤ cycle = next.least cycle (omega (arith, h.from)) here in
@@ -76,10 +81,12 @@ next_sends from cycle other x h next =
     let after : 2 * cycle + 1 ≤ 2 * other + 1 = h.least (2 * other + 1) (omega (arith, next.from)) there in
     omega arith
 
-pub next_comes : (n core from cycle : ℕ) (x : Interface) (p : Packet) → IsNext (acts x) from (2 * cycle) → IsFirst n core from x.under_way p → p.due ≡ cycle
+pub next_comes : (n core from cycle : ℕ) (x : Interface) (p : Packet) → IsNext (acts x) from (2 * cycle)
+    → IsFirst n core from x.under_way p → p.due ≡ cycle
 next_comes n core from cycle x p h first =
     let here : comes x cycle ≡ true = sym (acts_even x (2 * cycle) cycle refl) ∙ h.passes in
-    let there : acts x (2 * p.due) ≡ true = acts_even x (2 * p.due) p.due refl ∙ first_comes n core from x.under_way p first in
+    let there : acts x (2 * p.due) ≡ true =
+    acts_even x (2 * p.due) p.due refl ∙ first_comes n core from x.under_way p first in
     let after : 2 * cycle ≤ 2 * p.due = h.least (2 * p.due) first.after there in
     omega (arith, first_due n core from cycle x.under_way p first here)
 
@@ -94,57 +101,74 @@ still x cycle (suc phase) few none =
 
 pub quiet_before : (x : Interface) (from next : ℕ) → IsNext (acts x) from next → IsQuiet x from next
 quiet_before x from next h = λ cycle phase few after before.
-    still x cycle phase few (false_unless (acts x (2 * cycle + phase)) (λ here. let late : next ≤ 2 * cycle + phase = h.least (2 * cycle + phase) after here in omega arith))
+    still x cycle phase few (false_unless (acts x (2 * cycle + phase))
+    (λ here. let late : next ≤ 2 * cycle + phase = h.least (2 * cycle + phase) after here in omega arith))
 
 pub quiet_for_ever : (x : Interface) (from to : ℕ) → ((half : ℕ) → acts x half ≡ false) → IsQuiet x from to
 quiet_for_ever x from to none = λ cycle phase few after before. still x cycle phase few (none (2 * cycle + phase))
 
-pub never_acts : (x : Interface) → ((cycle : ℕ) → sends x cycle ≡ false) → x.under_way ≡ [] → (half : ℕ) → acts x half ≡ false
+pub never_acts : (x : Interface) → ((cycle : ℕ) → sends x cycle ≡ false) → x.under_way ≡ [] → (half : ℕ)
+    → acts x half ≡ false
 never_acts x none empty half = elim (each_half half) [
   | inl even ↦ acts_even x half (half / 2) even ∙ rw empty refl
   | inr odd ↦ acts_odd x half (half / 2) odd ∙ none (half / 2)
 ]
 
 -- the next act, of the next injection and of the packet that was sent first
-pub sent_alone : (s : Standing) (half cycle : ℕ) → half ≡ 2 * cycle + 1 → IsNext (sends s.interface) (s.from / 2) cycle → s.interface.under_way ≡ [] → IsNextAct s half
+pub sent_alone : (s : Standing) (half cycle : ℕ) → half ≡ 2 * cycle + 1 → IsNext (sends s.interface) (s.from / 2) cycle
+    → s.interface.under_way ≡ [] → IsNextAct s half
 sent_alone s half cycle e sent empty =
     subst (λ h. IsNext (acts s.interface) s.from h) (sym e)
-    (next_is_injection s.from cycle s.interface sent (λ due here. let no : false ≡ true = rw empty at here in absurd (let bad : false ≡ true = no in cc)))
+    (next_is_injection s.from cycle s.interface sent (λ due here. let no : false ≡ true = rw empty at here in
+    absurd (let bad : false ≡ true = no in cc)))
 
-pub sent_before : (s : Standing) (p : Packet) (half cycle : ℕ) → half ≡ 2 * cycle + 1 → IsNext (sends s.interface) (s.from / 2) cycle → IsFirstOf s p → cycle < p.due → IsNextAct s half
+pub sent_before : (s : Standing) (p : Packet) (half cycle : ℕ) → half ≡ 2 * cycle + 1
+    → IsNext (sends s.interface) (s.from / 2) cycle → IsFirstOf s p → cycle < p.due → IsNextAct s half
 sent_before s p half cycle e sent first before =
     subst (λ h. IsNext (acts s.interface) s.from h) (sym e)
     (next_is_injection s.from cycle s.interface sent
-    (λ due here. omega (arith, first_due s.interface.cores s.interface.core s.from due s.interface.under_way p first here)))
+    (λ due here. omega (
+      arith,
+      first_due s.interface.cores s.interface.core s.from due s.interface.under_way
+          p first here,
+    )))
 
-pub comes_alone : (s : Standing) (p : Packet) (half : ℕ) → half ≡ 2 * p.due → IsFirstOf s p → ((cycle : ℕ) → sends s.interface cycle ≡ false) → IsNextAct s half
+pub comes_alone : (s : Standing) (p : Packet) (half : ℕ) → half ≡ 2 * p.due → IsFirstOf s p
+    → ((cycle : ℕ) → sends s.interface cycle ≡ false) → IsNextAct s half
 comes_alone s p half e first none =
     subst (λ h. IsNext (acts s.interface) s.from h) (sym e)
     (next_is_delivery s.interface.cores s.interface.core s.from s.interface p first
     (λ cycle after here. let never = none cycle in absurd (let no : true ≡ false = cc in cc)))
 
-pub comes_before : (s : Standing) (p : Packet) (half cycle : ℕ) → half ≡ 2 * p.due → IsFirstOf s p → IsNext (sends s.interface) (s.from / 2) cycle → p.due ≤ cycle → IsNextAct s half
+pub comes_before : (s : Standing) (p : Packet) (half cycle : ℕ) → half ≡ 2 * p.due → IsFirstOf s p
+    → IsNext (sends s.interface) (s.from / 2) cycle → p.due ≤ cycle → IsNextAct s half
 comes_before s p half cycle e first sent before =
     subst (λ h. IsNext (acts s.interface) s.from h) (sym e)
     (next_is_delivery s.interface.cores s.interface.core s.from s.interface p first
     (λ other after here. omega (arith, sent.least other after here)))
 
 -- the packet that was sent first is delivered alone
-pub first_program : (s : Standing) (p : Packet) → IsFirstOf s p → delivery p.due s.interface ≡ sets (comm_word p.target p.first) (carried p.payload) (done (delivered p.due s.interface))
+pub first_program : (s : Standing) (p : Packet) → IsFirstOf s p → delivery p.due s.interface
+    ≡ sets (comm_word p.target p.first) (carried p.payload) (done (delivered p.due s.interface))
 first_program s p first =
-    let here : comes s.interface p.due ≡ true = first_comes s.interface.cores s.interface.core s.from s.interface.under_way p first in
+    let here : comes s.interface p.due ≡ true =
+    first_comes s.interface.cores s.interface.core s.from s.interface.under_way p first in
     let alone = first_alone s.interface.cores s.interface.core s.from s.interface.under_way p first in
     rw (here, delivery) (ap (λ ps. written ps (done (delivered p.due s.interface))) alone)
 
 -- a delivery that comes next is that of a packet under way
-pub some_under_way : (s : Standing) → (cycle : ℕ) × IsNextAct s (2 * cycle) → slice_get s.interface.under_way 0 ≡ None → ⊥
+pub some_under_way : (s : Standing) → (cycle : ℕ) × IsNextAct s (2 * cycle) → slice_get s.interface.under_way 0 ≡ None
+    → ⊥
 some_under_way s next none =
     let here : comes s.interface next.0 ≡ true = sym (acts_even s.interface (2 * next.0) next.0 refl) ∙ next.1.passes in
     let no : comes s.interface next.0 ≡ false = rw (is_empty s.interface.under_way none) refl in
     let bad : true ≡ false = cc in cc
 
 -- the packet that was sent first is taken out
-pub takes_first : (s : Standing) (p : Packet) (cycle : ℕ) (rest : List Packet) → IsFirstOf s p → IsNextAct s (2 * cycle) → rest ≡ drop 1 s.interface.under_way → ◌≡◌ {A = Standing} (record { interface = record s.interface { under_way = rest }; from = 2 * p.due + 1 }) (record { interface = delivered cycle s.interface; from = 2 * cycle + 1 })
+pub takes_first : (s : Standing) (p : Packet) (cycle : ℕ) (rest : List Packet) → IsFirstOf s p → IsNextAct s (2 * cycle)
+    → rest ≡ drop 1 s.interface.under_way
+    → ◌≡◌ {A = Standing} (record { interface = record s.interface { under_way = rest }; from = 2 * p.due + 1 })
+    (record { interface = delivered cycle s.interface; from = 2 * cycle + 1 })
 takes_first s p cycle rest first next taken =
     let same : p.due ≡ cycle = next_comes s.interface.cores s.interface.core s.from cycle s.interface p next first in
     let left : rest ≡ filter (λ q. not (q.due == cycle)) s.interface.under_way =
@@ -153,14 +177,16 @@ takes_first s p cycle rest first next taken =
     λ i. record { interface = record s.interface { under_way = left i }; from = 2 * same i + 1 }
 
 -- where nothing is left in a cycle or before it, each packet under way is due later
-pub none_late : (s : Standing) (cycle n core : ℕ) → IsQueue n core s.from s.interface.under_way → IsPast s cycle → (due : ℕ) → comes s.interface due ≡ true → 2 * cycle + 2 ≤ 2 * due
+pub none_late : (s : Standing) (cycle n core : ℕ) → IsQueue n core s.from s.interface.under_way → IsPast s cycle
+    → (due : ℕ) → comes s.interface due ≡ true → 2 * cycle + 2 ≤ 2 * due
 none_late s cycle n core queue past due here =
     let after : s.from ≤ 2 * due = due_from n core s.from due s.interface.under_way queue here in
     let there : acts s.interface (2 * due) ≡ true = acts_even s.interface (2 * due) due refl ∙ here in
     omega (arith, past (2 * due) after there)
 
 -- where the next act is an injection, it is that of the next cycle in which something is injected
-pub sends_now : (s : Standing) (cycle : ℕ) → (c : ℕ) × IsNextAct s (2 * c + 1) → IsNext (sends s.interface) (s.from / 2) cycle → IsNextAct s (2 * cycle + 1)
+pub sends_now : (s : Standing) (cycle : ℕ) → (c : ℕ) × IsNextAct s (2 * c + 1)
+    → IsNext (sends s.interface) (s.from / 2) cycle → IsNextAct s (2 * cycle + 1)
 sends_now s cycle next sent =
     let same : next.0 ≡ cycle = sym (next_sends s.from next.0 cycle s.interface next.1 sent) in
     subst (λ c. IsNextAct s (2 * c + 1)) same next.1
@@ -168,7 +194,8 @@ sends_now s cycle next sent =
 -- there is one
 pub some_sent : (s : Standing) → (c : ℕ) × IsNextAct s (2 * c + 1) → ((cycle : ℕ) → sends s.interface cycle ≡ false) → ⊥
 some_sent s next none =
-    let here : sends s.interface next.0 ≡ true = sym (acts_odd s.interface (2 * next.0 + 1) next.0 refl) ∙ next.1.passes in
+    let here : sends s.interface next.0 ≡ true =
+    sym (acts_odd s.interface (2 * next.0 + 1) next.0 refl) ∙ next.1.passes in
     let never : sends s.interface next.0 ≡ false = none next.0 in
     let bad : true ≡ false = cc in cc
 
@@ -194,7 +221,8 @@ pub record IsSending (s : Standing) (cycle : ℕ) : Type 0 where
   pub after : s.from ≤ 2 * cycle + 1
   pub late : (due : ℕ) → comes s.interface due ≡ true → cycle < due
 
-is_sending : (s : Standing) (cycle n core : ℕ) → IsQueue n core s.from s.interface.under_way → IsNextAct s (2 * cycle + 1) → IsSending s cycle
+is_sending : (s : Standing) (cycle n core : ℕ) → IsQueue n core s.from s.interface.under_way
+    → IsNextAct s (2 * cycle + 1) → IsSending s cycle
 is_sending s cycle n core queue next =
     let x : Interface = s.interface in
     record {
@@ -207,39 +235,48 @@ is_sending s cycle n core queue next =
     }
 
 -- heard with the values read, an injection leaves the interface that has injected them
-heard : (x : Interface) (cycle stamp : ℕ) (values : List ℕ) → sends x cycle ≡ true → (fed stamp (injection cycle x) values).core ≡ injected cycle values x
+heard : (x : Interface) (cycle stamp : ℕ) (values : List ℕ) → sends x cycle ≡ true
+    → (fed stamp (injection cycle x) values).core ≡ injected cycle values x
 heard x cycle stamp values here =
     let left : ℕ = (port_to x (target_at x cycle)).channel.left in
     let some = (sends_means x cycle here).some in
     let word : ℕ = comm_word x.core (port_to x (target_at x cycle)).channel.source in
-    let reads : (size : ℕ) → packet_size left ≡ size → injection cycle x ≡ gets size word (λ values. done (injected cycle values x)) =
+    let reads : (size : ℕ) → packet_size left ≡ size → injection cycle x
+    ≡ gets size word (λ values. done (injected cycle values x)) =
     λ size e. rw (here, injection) (ap (λ s. gets s word (λ values. done (injected cycle values x))) e) in
-    let loaded : (heard_values : List ℕ) → payload left heard_values ≡ payload left values → injected cycle heard_values x ≡ injected cycle values x =
+    let loaded : (heard_values : List ℕ) → payload left heard_values ≡ payload left values
+    → injected cycle heard_values x ≡ injected cycle values x =
     λ heard_values e. ap (λ load. injected_to (target_at x cycle) cycle load x) e in
     elim (cases_eq left 1) [
       | inl one ↦
           let yes : (left == 1) ≡ true = eq-eqb left 1 one in
-          ap (λ p. (fed stamp p values).core) (reads 1 (omega arith)) ∙ loaded (first values ∷ []) (rw (yes, payload) refl)
+          ap (λ p. (fed stamp p values).core) (reads 1 (omega arith))
+          ∙ loaded (first values ∷ []) (rw (yes, payload) refl)
       | inr more ↦
           let no : (left == 1) ≡ false = ne_eqb left 1 more in
-          ap (λ p. (fed stamp p values).core) (reads 2 (omega arith)) ∙ loaded (first values ∷ first (others values) ∷ []) (rw (no, payload) refl)
+          ap (λ p. (fed stamp p values).core) (reads 2 (omega arith)) ∙ loaded (first values ∷ first (others values)
+          ∷ []) (rw (no, payload) refl)
     ]
 
-pub heard_next : (s : Standing) (cycle stamp : ℕ) (values : List ℕ) → IsNextAct s (2 * cycle + 1) → (fed stamp (injection cycle s.interface) values).core ≡ injected cycle values s.interface
+pub heard_next : (s : Standing) (cycle stamp : ℕ) (values : List ℕ) → IsNextAct s (2 * cycle + 1)
+    → (fed stamp (injection cycle s.interface) values).core ≡ injected cycle values s.interface
 heard_next s cycle stamp values next =
     heard s.interface cycle stamp values (sym (acts_odd s.interface (2 * cycle + 1) cycle refl) ∙ next.passes)
 
 -- what is known at an injection that is carried out
-pub is_sending_now : (s now : Standing) (cycle n core : ℕ) → s ≡ now → IsQueue n core s.from s.interface.under_way → (c : ℕ) × IsNextAct now (2 * c + 1) → IsNext (sends now.interface) (now.from / 2) cycle → IsSending s cycle
+pub is_sending_now : (s now : Standing) (cycle n core : ℕ) → s ≡ now → IsQueue n core s.from s.interface.under_way
+    → (c : ℕ) × IsNextAct now (2 * c + 1) → IsNext (sends now.interface) (now.from / 2) cycle → IsSending s cycle
 is_sending_now s now cycle n core same queue next sent =
-    let there : IsNextAct s (2 * cycle + 1) = subst (λ z. IsNextAct z (2 * cycle + 1)) (sym same) (sends_now now cycle next sent) in
+    let there : IsNextAct s (2 * cycle + 1) =
+    subst (λ z. IsNextAct z (2 * cycle + 1)) (sym same) (sends_now now cycle next sent) in
     is_sending s cycle n core queue there
 
 -- no words are left in unused ports
 none_in : (d : ℕ) → (port_at all_unused d).channel.left ≡ 0
 none_in d = elim (cases_lt d 16) [
   | inl below ↦ ap (λ (p : Port). p.channel.left) (get_or-replicate 16 d unused unused below)
-  | inr past ↦ ap (λ (p : Port). p.channel.left) (get_or_past all_unused d unused (omega (arith, length-replicate 16 unused)))
+  | inr past ↦ ap (λ (p : Port). p.channel.left) (get_or_past all_unused d unused
+      (omega (arith, length-replicate 16 unused)))
 ]
 
 -- an interface with which nothing was done sends nothing
@@ -249,33 +286,40 @@ new_sends_none n core cycle = false_unless (sends (new_interface n core) cycle) 
     omega (arith, some, none_in (target_at (new_interface n core) cycle)))
 
 -- so it does nothing
-pub new_is_quiet : (n core half : ℕ) (packets : List Packet) → packets ≡ [] → acts (record (new_interface n core) { under_way = packets }) half ≡ false
+pub new_is_quiet : (n core half : ℕ) (packets : List Packet) → packets ≡ []
+    → acts (record (new_interface n core) { under_way = packets }) half ≡ false
 new_is_quiet n core half packets empty =
     never_acts (record (new_interface n core) { under_way = packets }) (new_sends_none n core) empty half
 
 -- registers change nothing of what is sent
-pub same_sends : (x : Interface) (d cycle : ℕ) (port : Port) → d < length x.ports → port.channel ≡ (port_to x d).channel → sends (with_port d port x) cycle ≡ sends x cycle
+pub same_sends : (x : Interface) (d cycle : ℕ) (port : Port) → d < length x.ports → port.channel ≡ (port_to x d).channel
+    → sends (with_port d port x) cycle ≡ sends x cycle
 same_sends x d cycle port below same =
     let t : ℕ = target_at x cycle in
     let kept : (port_at (set x.ports d port) t).channel ≡ (port_at x.ports t).channel = elim (cases_eq t d) [
       | inl own ↦ ap (λ i. (port_at (set x.ports d port) i).channel) own
-          ∙ ap (λ (p : Port). p.channel) (get_or-set_same x.ports d port unused below) ∙ same ∙ sym (ap (λ i. (port_at x.ports i).channel) own)
+          ∙ ap (λ (p : Port). p.channel) (get_or-set_same x.ports d port unused below) ∙ same
+          ∙ sym (ap (λ i. (port_at x.ports i).channel) own)
       | inr other ↦ ap (λ (p : Port). p.channel) (get_or-set_other x.ports d t port unused other)
     ] in
     ap (λ (c : Channel). (cycle % 3 == 0) && (nat_le 2 x.cores && nat_lt 0 c.left)) kept
 
 -- so they change nothing of what is to come
-pub same_acts : (x : Interface) (d half : ℕ) (port : Port) → d < length x.ports → port.channel ≡ (port_to x d).channel → acts (with_port d port x) half ≡ acts x half
+pub same_acts : (x : Interface) (d half : ℕ) (port : Port) → d < length x.ports → port.channel ≡ (port_to x d).channel
+    → acts (with_port d port x) half ≡ acts x half
 same_acts x d half port below same =
-    ap (λ sent. elim (half % 2 == 0) as (λ _. Bool) [ true ↦ comes x (half / 2) | false ↦ sent ]) (same_sends x d (half / 2) port below same)
+    ap (λ sent. elim (half % 2 == 0) as (λ _. Bool) [ true ↦ comes x (half / 2) | false ↦ sent ])
+    (same_sends x d (half / 2) port below same)
 
 -- a packet that comes to its words leaves what follows
-sets_carried : {X : Type 0} (stamp word : ℕ) (load : Payload) (x : X) (values : List ℕ) → (fed stamp (sets word (carried load) (done x)) values).core ≡ x
+sets_carried : {X : Type 0} (stamp word : ℕ) (load : Payload) (x : X) (values : List ℕ)
+    → (fed stamp (sets word (carried load) (done x)) values).core ≡ x
 sets_carried stamp word (One a) x values = refl
 sets_carried stamp word (Two a b) x values = refl
 
 -- heard, a delivery leaves the interface without the packet
-pub heard_delivery : (s now : Standing) (p : Packet) (cycle stamp : ℕ) (values : List ℕ) → s ≡ now → IsFirstOf s p → IsNextAct now (2 * cycle) → (fed stamp (delivery cycle now.interface) values).core ≡ delivered cycle now.interface
+pub heard_delivery : (s now : Standing) (p : Packet) (cycle stamp : ℕ) (values : List ℕ) → s ≡ now → IsFirstOf s p
+    → IsNextAct now (2 * cycle) → (fed stamp (delivery cycle now.interface) values).core ≡ delivered cycle now.interface
 heard_delivery s now p cycle stamp values here first next_now =
     let next : IsNextAct s (2 * cycle) = subst (λ z. IsNextAct z (2 * cycle)) (sym here) next_now in
     let same : p.due ≡ cycle = next_comes s.interface.cores s.interface.core s.from cycle s.interface p next first in

@@ -13,7 +13,9 @@ use Rattle.argo_ni.specs.Interface.{Interface, Standing}
 use Rattle.argo_ni.specs.Turn.{turn}
 use Rattle.argo_ni.specs.Event.{stamp_in, IsQuiet}
 
-pub stays : (n core : ℕ) (x : Interface) (made : List Operation) (s : Standing) (to : ℕ) → core < n → s.from ≤ to → IsQuiet s.interface s.from to → Stands (act_at turn n) n core x made (s.from * n) s.interface → Stands (act_at turn n) n core x made (to * n) s.interface
+pub stays : (n core : ℕ) (x : Interface) (made : List Operation) (s : Standing) (to : ℕ) → core < n → s.from ≤ to
+    → IsQuiet s.interface s.from to → Stands (act_at turn n) n core x made (s.from * n) s.interface
+    → Stands (act_at turn n) n core x made (to * n) s.interface
 stays n core x made s to among later quiet stands =
     let length : s.from * n + (to - s.from) * n ≡ to * n = whole s.from to later in
     subst (λ u. Stands (act_at turn n) n core x made u s.interface) length
@@ -29,11 +31,18 @@ stays n core x made s to among later quiet stands =
     whole : (a b : ℕ) → a ≤ b → a * n + (b - a) * n ≡ b * n
     whole a b h = let e : b ≡ a + (b - a) = omega arith in omega (arith, ap (λ k. k * n) e)
 
-pub takes_turn : (n core : ℕ) (x : Interface) (made : List Operation) (cycle phase : ℕ) (y : Interface) (values : List ℕ) → core < n → phase ≤ 1 → Stands (act_at turn n) n core x made ((2 * cycle + phase) * n) y → Stands (act_at turn n) n core x (made ++ (fed (stamp_in n core (2 * cycle + phase)) (turn phase cycle y) values).ops) ((2 * cycle + phase) * n + n) (fed (stamp_in n core (2 * cycle + phase)) (turn phase cycle y) values).core
+pub takes_turn : (n core : ℕ) (x : Interface) (made : List Operation) (cycle phase : ℕ) (y : Interface)
+    (values : List ℕ) → core < n → phase ≤ 1 → Stands (act_at turn n) n core x made ((2 * cycle + phase) * n) y
+    → Stands (act_at turn n) n core x (made ++ (fed (stamp_in n core (2 * cycle + phase)) (turn phase cycle y)
+    values).ops) ((2 * cycle + phase) * n + n) (fed (stamp_in n core (2 * cycle + phase))
+    (turn phase cycle y) values).core
 takes_turn n core x made cycle phase y values among few stands =
     let at : ℕ = stamp n core cycle phase in
     let own : at % n ≡ core = mod-mul-add (2 * cycle + phase) n core among in
-    let there = resumed (act_at turn n) n core x made at y own (reaches turn n core x made cycle phase y among stands) values in
+    let there = resumed (act_at turn n) n core x made at y own (reaches turn n core x made cycle phase y among stands)
+    values in
     let same : act_at turn n at y ≡ turn phase cycle y = act_here turn n core cycle phase among few y in
-    passes turn n core x (made ++ (fed at (turn phase cycle y) values).ops) cycle phase (fed at (turn phase cycle y) values).core among
-    (subst (λ (p : Prog Interface). Stands (act_at turn n) n core x (made ++ (fed at p values).ops) (suc at) (fed at p values).core) same there)
+    passes turn n core x (made ++ (fed at (turn phase cycle y) values).ops) cycle phase
+    (fed at (turn phase cycle y) values).core among
+    (subst (λ (p : Prog Interface). Stands (act_at turn n) n core x (made ++ (fed at p values).ops) (suc at)
+    (fed at p values).core) same there)

@@ -15,7 +15,8 @@ neither true = refl
 neither false = refl
 
 -- a number that passes the test, before which none does
-pub found : (test : ℕ → Bool) (first k : ℕ) → test k ≡ true → first ≤ k → ((j : ℕ) → first ≤ j → j < k → test j ≡ false) → IsNext test first k
+pub found : (test : ℕ → Bool) (first k : ℕ) → test k ≡ true → first ≤ k → ((j : ℕ) → first ≤ j → j < k → test j ≡ false)
+    → IsNext test first k
 found test first k here from none = record {
   passes = here;
   from = from;
@@ -26,15 +27,18 @@ found test first k here from none = record {
 }
 
 -- in its window, a target whose channel has words is sent to
-pub used_here : (n core k : ℕ) (ports : List Port) → 2 ≤ n → 0 < (port_at ports (target_in n core k)).channel.left → is_used n core ports k ≡ true
+pub used_here : (n core k : ℕ) (ports : List Port) → 2 ≤ n → 0 < (port_at ports (target_in n core k)).channel.left
+    → is_used n core ports k ≡ true
 used_here n core k ports several some = grind (arith, nat_tests)
 
 -- and one whose channel has none is not
-pub unused_here : (n core k : ℕ) (ports : List Port) → (port_at ports (target_in n core k)).channel.left ≤ 0 → is_used n core ports k ≡ false
+pub unused_here : (n core k : ℕ) (ports : List Port) → (port_at ports (target_in n core k)).channel.left ≤ 0
+    → is_used n core ports k ≡ false
 unused_here n core k ports none = grind (arith, nat_tests)
 
 -- so where nothing is sent in one round, nothing ever is
-pub none_used : (n core first : ℕ) (ports : List Port) → ((k : ℕ) → first ≤ k → k < first + (n - 1) → is_used n core ports k ≡ false) → (k : ℕ) → is_used n core ports k ≡ false
+pub none_used : (n core first : ℕ) (ports : List Port) → ((k : ℕ) → first ≤ k → k < first + (n - 1)
+    → is_used n core ports k ≡ false) → (k : ℕ) → is_used n core ports k ≡ false
 none_used n core first ports none k = elim (cases_lt n 2) [
   | inl alone ↦ grind (arith, nat_tests)
   | inr several ↦
@@ -45,12 +49,14 @@ none_used n core first ports none k = elim (cases_lt n 2) [
 ]
 
 -- the first window in which something is sent begins in the first cycle in which something is
-pub sends_next : (n core : ℕ) (ports : List Port) (from first window : ℕ) → from ≤ 2 * (3 * first) + 1 → 2 * (3 * first) + 1 < from + 6 → IsNext (is_used n core ports) first window → IsNext (sends_in n core ports) (from / 2) (3 * window)
+pub sends_next : (n core : ℕ) (ports : List Port) (from first window : ℕ) → from ≤ 2 * (3 * first) + 1 → 2 * (3 * first)
+    + 1 < from + 6 → IsNext (is_used n core ports) first window → IsNext (sends_in n core ports) (from / 2) (3 * window)
 sends_next n core ports from first window after near h = record {
   passes =
       let whole : 3 * window % 3 ≡ 0 = omega arith in
       let third : 3 * window / 3 ≡ window = omega arith in
-      and_from (3 * window % 3 == 0) (is_used n core ports (3 * window / 3)) (eq-eqb (3 * window % 3) 0 whole) (ap (is_used n core ports) third ∙ h.passes);
+      and_from (3 * window % 3 == 0) (is_used n core ports (3 * window / 3)) (eq-eqb (3 * window % 3) 0 whole)
+      (ap (is_used n core ports) third ∙ h.passes);
   from = omega (arith, h.from);
   least = λ v at sent.
       let parts = and_parts (v % 3 == 0) (is_used n core ports (v / 3)) sent in
@@ -60,7 +66,8 @@ sends_next n core ports from first window after near h = record {
 }
 
 -- where no window is used nothing is ever sent
-pub never_sends : (n core : ℕ) (ports : List Port) → ((k : ℕ) → is_used n core ports k ≡ false) → (cycle : ℕ) → sends_in n core ports cycle ≡ false
+pub never_sends : (n core : ℕ) (ports : List Port) → ((k : ℕ) → is_used n core ports k ≡ false) → (cycle : ℕ)
+    → sends_in n core ports cycle ≡ false
 never_sends n core ports none cycle =
     let never = none (cycle / 3) in rw never (neither (cycle % 3 == 0))
 
@@ -86,7 +93,8 @@ other_core n core k several among = λ same.
     ]
 
 -- no two cores have the same target in a window
-pub targets_apart : (n core other window : ℕ) → core < n → other < n → target_in n core window ≡ target_in n other window → core ≡ other
+pub targets_apart : (n core other window : ℕ) → core < n → other < n → target_in n core window
+    ≡ target_in n other window → core ≡ other
 targets_apart n core other window among among' same = elim (cases_lt n 2) [
   | inl alone ↦ omega arith
   | inr several ↦
@@ -108,12 +116,15 @@ pub round_on : (n core window : ℕ) → target_in n core (window + (n - 1)) ≡
 round_on n core window = ap (λ turn. (core + (turn + 1)) % n) (add-mod_right window (n - 1))
 
 -- each other core has a window of its own, so where nothing is ever sent no words are left to it
-pub never_left : (n core d : ℕ) (ports : List Port) → core < n → d < n → d ≢ core → ((cycle : ℕ) → sends_in n core ports cycle ≡ false) → (port_at ports d).channel.left ≡ 0
+pub never_left : (n core d : ℕ) (ports : List Port) → core < n → d < n → d ≢ core
+    → ((cycle : ℕ) → sends_in n core ports cycle ≡ false) → (port_at ports d).channel.left ≡ 0
 never_left n core d ports among below other none = elim (cases_lt core d) [
   | inl after ↦ at_window (d - core - 1) (omega arith)
-      (ap (λ turn. (core + (turn + 1)) % n) (mod-eq_of_lt {n = d - core - 1} {m = n - 1} (omega arith)) ∙ ap (λ x. x % n) (omega arith) ∙ mod-eq_of_lt below)
+      (ap (λ turn. (core + (turn + 1)) % n) (mod-eq_of_lt {n = d - core - 1} {m = n - 1} (omega arith))
+      ∙ ap (λ x. x % n) (omega arith) ∙ mod-eq_of_lt below)
   | inr before ↦ at_window (d + n - core - 1) (omega arith)
-      (ap (λ turn. (core + (turn + 1)) % n) (mod-eq_of_lt {n = d + n - core - 1} {m = n - 1} (omega arith)) ∙ ap (λ x. x % n) (omega arith) ∙ mod-mul-add 1 n d below)
+      (ap (λ turn. (core + (turn + 1)) % n) (mod-eq_of_lt {n = d + n - core - 1} {m = n - 1} (omega arith))
+      ∙ ap (λ x. x % n) (omega arith) ∙ mod-mul-add 1 n d below)
 ]
   where
     at_window : (k : ℕ) → 2 ≤ n → target_in n core k ≡ d → (port_at ports d).channel.left ≡ 0
@@ -127,7 +138,8 @@ never_left n core d ports among below other none = elim (cases_lt core d) [
               subst (λ t. 0 < (port_at ports t).channel.left) (sym to) some in
               let used : is_used n core ports k ≡ true = used_here n core k ports several there in
               let sent : sends_in n core ports (3 * k) ≡ true =
-              and_from (3 * k % 3 == 0) (is_used n core ports (3 * k / 3)) (eq-eqb (3 * k % 3) 0 whole) (ap (is_used n core ports) third ∙ used) in
+              and_from (3 * k % 3 == 0) (is_used n core ports (3 * k / 3)) (eq-eqb (3 * k % 3) 0 whole)
+              (ap (is_used n core ports) third ∙ used) in
               absurd (let no : true ≡ false = cc in cc)
           | inr empty ↦ omega arith
         ]
@@ -144,12 +156,15 @@ turn_again m k last =
     ap (λ x. x % m) whole ∙ mod-mul-add (k / m + 1) m 0 (omega arith)
 
 -- after a window's target comes the next core, where that is not the sender
-pub next_in_round : (n core target k : ℕ) → 2 ≤ n → core < n → target ≡ target_in n core k → (target + 1) % n ≢ core → (target + 1) % n ≡ target_in n core (k + 1)
+pub next_in_round : (n core target k : ℕ) → 2 ≤ n → core < n → target ≡ target_in n core k → (target + 1) % n ≢ core
+    → (target + 1) % n ≡ target_in n core (k + 1)
 next_in_round n core target k several among here other =
     let turn : ℕ = k % (n - 1) in
-    let on : (target + 1) % n ≡ (core + (turn + 1) + 1) % n = ap (λ t. (t + 1) % n) here ∙ mod-add-mod (core + (turn + 1)) n 1 in
+    let on : (target + 1) % n ≡ (core + (turn + 1) + 1) % n =
+    ap (λ t. (t + 1) % n) here ∙ mod-add-mod (core + (turn + 1)) n 1 in
     elim (cases_lt (turn + 1) (n - 1)) [
-      | inl inside ↦ on ∙ ap (λ x. x % n) (omega arith) ∙ ap (λ t. (core + (t + 1)) % n) (sym (turn_on (n - 1) k inside))
+      | inl inside ↦ on ∙ ap (λ x. x % n) (omega arith)
+          ∙ ap (λ t. (core + (t + 1)) % n) (sym (turn_on (n - 1) k inside))
       | inr last ↦
           let below = turn_below n k several in
           let round : (core + (turn + 1) + 1) % n ≡ core = ap (λ x. x % n) (omega arith) ∙ mod-mul-add 1 n core among in
@@ -157,10 +172,12 @@ next_in_round n core target k several among here other =
     ]
 
 -- and where it is, the one after that
-pub past_itself : (n core target k : ℕ) → 2 ≤ n → core < n → target ≡ target_in n core k → (target + 1) % n ≡ core → (core + 1) % n ≡ target_in n core (k + 1)
+pub past_itself : (n core target k : ℕ) → 2 ≤ n → core < n → target ≡ target_in n core k → (target + 1) % n ≡ core
+    → (core + 1) % n ≡ target_in n core (k + 1)
 past_itself n core target k several among here own =
     let turn : ℕ = k % (n - 1) in
-    let on : (target + 1) % n ≡ (core + (turn + 1) + 1) % n = ap (λ t. (t + 1) % n) here ∙ mod-add-mod (core + (turn + 1)) n 1 in
+    let on : (target + 1) % n ≡ (core + (turn + 1) + 1) % n =
+    ap (λ t. (t + 1) % n) here ∙ mod-add-mod (core + (turn + 1)) n 1 in
     let below = turn_below n k several in
     elim (cases_lt (turn + 1) (n - 1)) [
       | inl inside ↦ elim (wrapped (core + (turn + 1) + 1) n (omega arith)) [

@@ -16,23 +16,28 @@ module _ (w : ℕ → ℕ) where
   none_sum zero = refl
   none_sum (suc n) = none_sum n
 
-  or_sum : (a b : ℕ → Bool) (n : ℕ) → sum_by w (picked (λ j. a j || b j) n) ≤ sum_by w (picked a n) + sum_by w (picked b n)
+  or_sum : (a b : ℕ → Bool) (n : ℕ) → sum_by w (picked (λ j. a j || b j) n) ≤ sum_by w (picked a n)
+      + sum_by w (picked b n)
   or_sum a b zero = omega arith
   or_sum a b (suc n) = by (or_sum a b n) (a n) (b n)
     where
       by : sum_by w (picked (λ j. a j || b j) n) ≤ sum_by w (picked a n) + sum_by w (picked b n) → (x y : Bool)
           → sum_by w (if x || y then n ∷ picked (λ j. a j || b j) n else picked (λ j. a j || b j) n)
           ≤ sum_by w (if x then n ∷ picked a n else picked a n) + sum_by w (if y then n ∷ picked b n else picked b n)
-      by r true true = let e = sum_by-cons w n (picked (λ j. a j || b j) n) in let p = sum_by-cons w n (picked a n) in let q = sum_by-cons w n (picked b n) in omega (arith, r, e, p, q)
-      by r true false = let e = sum_by-cons w n (picked (λ j. a j || b j) n) in let p = sum_by-cons w n (picked a n) in omega (arith, r, e, p)
-      by r false true = let e = sum_by-cons w n (picked (λ j. a j || b j) n) in let q = sum_by-cons w n (picked b n) in omega (arith, r, e, q)
+      by r true true = let e = sum_by-cons w n (picked (λ j. a j || b j) n) in let p = sum_by-cons w n (picked a n) in
+          let q = sum_by-cons w n (picked b n) in omega (arith, r, e, p, q)
+      by r true false = let e = sum_by-cons w n (picked (λ j. a j || b j) n) in let p = sum_by-cons w n (picked a n) in
+          omega (arith, r, e, p)
+      by r false true = let e = sum_by-cons w n (picked (λ j. a j || b j) n) in let q = sum_by-cons w n (picked b n) in
+          omega (arith, r, e, q)
       by r false false = r
 
   past_sum : (m n : ℕ) → n ≤ m → sum_by w (picked (λ j. j == m) n) ≡ 0
   past_sum m zero less = refl
   past_sum m (suc n) less = by (past_sum m n (omega (arith, less))) (n == m) (ne_eqb n m (λ e. omega (arith, e, less)))
     where
-      by : sum_by w (picked (λ j. j == m) n) ≡ 0 → (b : Bool) → b ≡ false → sum_by w (if b then n ∷ picked (λ j. j == m) n else picked (λ j. j == m) n) ≡ 0
+      by : sum_by w (picked (λ j. j == m) n) ≡ 0 → (b : Bool) → b ≡ false
+          → sum_by w (if b then n ∷ picked (λ j. j == m) n else picked (λ j. j == m) n) ≡ 0
       by rest true is = absurd (true≢false is)
       by rest false is = rest
 
@@ -40,7 +45,8 @@ module _ (w : ℕ → ℕ) where
   one_sum m zero = omega arith
   one_sum m (suc n) = by (one_sum m n) (n == m) refl
     where
-      by : sum_by w (picked (λ j. j == m) n) ≤ w m → (b : Bool) → (n == m) ≡ b → sum_by w (if b then n ∷ picked (λ j. j == m) n else picked (λ j. j == m) n) ≤ w m
+      by : sum_by w (picked (λ j. j == m) n) ≤ w m → (b : Bool) → (n == m) ≡ b
+          → sum_by w (if b then n ∷ picked (λ j. j == m) n else picked (λ j. j == m) n) ≤ w m
       by rest true is =
           let same = eqb-true n m is in
           let e = sum_by-cons w n (picked (λ j. j == m) n) in
@@ -71,7 +77,8 @@ module _ (fs : List PlainParts) (each all n : ℕ) where
 
   -- of each function before
   abbrev Less : ℕ → Type 0
-  Less m = (k : ℕ) → k < m → runs fs each m k + fills (λ j. reaches fs j m k) ≤ bounds fs each (fill_bound each fs) m k + fill_bound each fs k
+  Less m = (k : ℕ) → k < m → runs fs each m k + fills (λ j. reaches fs j m k) ≤ bounds fs each (fill_bound each fs) m k
+      + fill_bound each fs k
 
   or_fills : (a b : ℕ → Bool) → fills (λ j. a j || b j) ≤ fills a + fills b
   or_fills a b = let h = mul-le-mul_left each (or_sum (fill_moves fs) a b all) in omega (arith, h)
@@ -81,7 +88,8 @@ module _ (fs : List PlainParts) (each all n : ℕ) where
 
   module _ (less : Less n) where
     mutual
-      part_less : (p : PlainPart) → part_formed n p ≡ true → part_run p + fills (λ j. part_reaches (reaches fs j n) p) ≤ part_most p
+      part_less : (p : PlainPart) → part_formed n p ≡ true → part_run p + fills (λ j. part_reaches (reaches fs j n) p)
+          ≤ part_most p
       part_less (straight bs) formed = let e = none_fills in omega (arith, e)
       part_less (repeats zero body tail) formed = absurd (true≢false (sym formed))
       part_less (repeats (suc count) body tail) formed =
@@ -102,7 +110,8 @@ module _ (fs : List PlainParts) (each all n : ℕ) where
           omega (arith, h)
       part_less (leaves tail) formed = absurd (true≢false (sym formed))
 
-      parts_less : (ps : PlainParts) → parts_formed n ps ≡ true → run_of ps + fills (λ j. parts_reach (reaches fs j n) ps) ≤ most_of ps
+      parts_less : (ps : PlainParts) → parts_formed n ps ≡ true
+          → run_of ps + fills (λ j. parts_reach (reaches fs j n) ps) ≤ most_of ps
       parts_less no_part formed = let e = none_fills in omega (arith, e)
       parts_less (part p rest) formed =
           let a = and_parts (part_formed n p) (parts_formed n rest) formed in
@@ -111,12 +120,15 @@ module _ (fs : List PlainParts) (each all n : ℕ) where
           let z = or_fills (λ j. part_reaches (reaches fs j n) p) (λ j. parts_reach (reaches fs j n) rest) in
           omega (arith, x, y, z)
 
-    both_less : (p : PlainPart) (rest : PlainParts) → part_run p + fills (λ j. part_reaches (reaches fs j n) p) ≤ part_most p
+    both_less : (p : PlainPart) (rest : PlainParts) → part_run p + fills (λ j. part_reaches (reaches fs j n) p)
+        ≤ part_most p
         → run_of rest + fills (λ j. parts_reach (reaches fs j n) rest) ≤ most_of rest
         → run_of (part p rest) + fills (λ j. parts_reach (reaches fs j n) (part p rest)) ≤ most_of (part p rest)
-    both_less p rest x y = let z = or_fills (λ j. part_reaches (reaches fs j n) p) (λ j. parts_reach (reaches fs j n) rest) in omega (arith, x, y, z)
+    both_less p rest x y = let z = or_fills (λ j. part_reaches (reaches fs j n) p)
+        (λ j. parts_reach (reaches fs j n) rest) in omega (arith, x, y, z)
 
-    function_less : (ps : PlainParts) → function_formed n ps ≡ true → run_of ps + fills (λ j. parts_reach (reaches fs j n) ps) ≤ most_of ps
+    function_less : (ps : PlainParts) → function_formed n ps ≡ true
+        → run_of ps + fills (λ j. parts_reach (reaches fs j n) ps) ≤ most_of ps
     function_less no_part formed = absurd (true≢false (sym formed))
     function_less (part (leaves tail) no_part) formed = let e = none_fills in omega (arith, e)
     function_less (part (leaves tail) (part p more)) formed = absurd (true≢false (sym formed))
@@ -138,12 +150,16 @@ functions_less fs each all (suc n) formed k less =
   where
     by : function_formed n (slice_index_or fs n no_part) ≡ true → Less fs each all n n → (b : Bool) → (k == n) ≡ b
         → (if b then parts_bound each (λ _. 0) (runs fs each n) n (slice_index_or fs n no_part) else runs fs each n k)
-        + each * sum_by (fill_moves fs) (picked (λ j. if b then (j == n || parts_reach (reaches fs j n) (slice_index_or fs n no_part)) else reaches fs j n k) all)
-        ≤ (if b then parts_bound each (fill_bound each fs) (bounds fs each (fill_bound each fs) n) n (slice_index_or fs n no_part) else bounds fs each (fill_bound each fs) n k) + fill_bound each fs k
+        + each * sum_by (fill_moves fs) (picked
+        (λ j. if b then (j == n || parts_reach (reaches fs j n) (slice_index_or fs n no_part)) else
+        reaches fs j n k) all)
+        ≤ (if b then parts_bound each (fill_bound each fs) (bounds fs each (fill_bound each fs) n) n
+        (slice_index_or fs n no_part) else bounds fs each (fill_bound each fs) n k) + fill_bound each fs k
     by own earlier true is =
         let same = eqb-true k n is in
         let x = function_less fs each all n earlier (slice_index_or fs n no_part) own in
-        let z = or_fills fs each all n (λ j. j == n) (λ j. parts_reach (reaches fs j n) (slice_index_or fs n no_part)) in
+        let z = or_fills fs each all n (λ j. j == n) (λ j. parts_reach (reaches fs j n)
+        (slice_index_or fs n no_part)) in
         let o = mul-le-mul_left each (one_sum (fill_moves fs) n all) in
         let e = ap (λ i. each * fill_moves fs i) same in
         omega (arith, x, z, o, e)

@@ -1,4 +1,5 @@
--- What comes of a bundle is the same without a second instruction that does nothing; and of a flow and what stands beside
+-- What comes of a bundle is the same without a second instruction that does nothing; and of a flow and what stands
+-- beside
 -- it, one after the other.
 use Rattle.std.proofs.Common.{◌≡◌, ℕ, zero, suc, ◌==◌, true, true≢false, if◌then◌else◌, List, [], ◌∷◌, refl, sym, ap, ◌∙◌, arith, ne_eqb}
 use Rattle.std.specs.Prelude.{◌&&◌, ◌||◌}
@@ -40,7 +41,8 @@ nop_is i h =
     λ k. record { guard = g k; op = o k }
 
 -- a write of register 0 between two others
-zero_between : (v u : Write) (value : ℕ) (regs : Registers) → three v (write.Register 0 value) u regs ≡ three v write.Nothing u regs
+zero_between : (v u : Write) (value : ℕ) (regs : Registers) → three v (write.Register 0 value) u regs
+    ≡ three v write.Nothing u regs
 zero_between v u value regs = λ k. record {
   general = renewed (λ r x. so r x k) regs.general;
   preds = renewed (pred_after (write.Nothing ∷ v ∷ write.Nothing ∷ u ∷ [])) regs.preds;
@@ -51,24 +53,29 @@ zero_between v u value regs = λ k. record {
   pending = pending.Nothing;
 }
   where
-    so : (r x : ℕ) → register_after (write.Nothing ∷ v ∷ write.Register 0 value ∷ u ∷ []) r x ≡ register_after (write.Nothing ∷ v ∷ write.Nothing ∷ u ∷ []) r x
+    so : (r x : ℕ) → register_after (write.Nothing ∷ v ∷ write.Register 0 value ∷ u ∷ []) r x
+        ≡ register_after (write.Nothing ∷ v ∷ write.Nothing ∷ u ∷ []) r x
     so zero x = refl
-    so (suc r) x = ap (λ b. if suc r == 0 then 0 else register_by (suc r) u (if b then value else register_by (suc r) v x)) (ne_eqb 0 (suc r) (λ e. omega (arith, e)))
+    so (suc r) x = ap (λ b. if suc r == 0 then 0 else register_by (suc r) u (if b then value else register_by
+        (suc r) v x)) (ne_eqb 0 (suc r) (λ e. omega (arith, e)))
 
-nop_once : (from : Sources) (x : Instr) (m : Run) → IsWhole m → once from (both_of x idle.first) m ≡ once from (lone x) m
+nop_once : (from : Sources) (x : Instr) (m : Run) → IsWhole m → once from (both_of x idle.first) m
+    ≡ once from (lone x) m
 nop_once from x m whole =
     let out = effected from (slot_asked m.regs x) m in
     let v = slot_write m.st m.ss m.regs x in
     let u = late_write from x m in
     once_told from (both_of x idle.first) m whole
-    ∙ ap (λ on. with_regs out (three v (if on then write_of m.st m.ss m.regs idle.first.op else write.Nothing) u m.regs)) whole.fits.always
+    ∙ ap (λ on. with_regs out (three v (if on then write_of m.st m.ss m.regs idle.first.op else write.Nothing) u
+    m.regs)) whole.fits.always
     ∙ ap (with_regs out) (zero_between v u (alu_value (alu_of imm.Add) (word_in m.regs 0) 0) m.regs)
     ∙ sym (once_told from (lone x) m whole)
 
 pub without_nop_once : (from : Sources) (b : Slots) (m : Run) → IsWhole m → once from (without_nop b) m ≡ once from b m
 without_nop_once from b m whole =
     without_nop_as (λ c b. once from c m ≡ once from b m) (λ b. refl)
-    (λ b i is nop. sym (nop_once from b.first m whole) ∙ (λ k. once from (both_of b.first (sym (nop_is i nop) k)) m) ∙ (λ k. once from (record { first = b.first; second = sym is k }) m)) b
+    (λ b i is nop. sym (nop_once from b.first m whole) ∙ (λ k. once from (both_of b.first (sym (nop_is i nop) k)) m)
+    ∙ (λ k. once from (record { first = b.first; second = sym is k }) m)) b
 
 -- ---- an instruction beside a flow
 
@@ -80,7 +87,8 @@ lacks_none (r ∷ rs) = lacks_none rs
 flow_free : (f i : Instr) → is_flow f.op ≡ true → IsFree f i
 flow_free f i h = so f.op h
   where
-    free : (op : Op) → results op ≡ [] → ((ps : List ℕ) → spares op ps ≡ list_all (lacks []) ps) → IsFree (record { guard = f.guard; op = op }) i
+    free : (op : Op) → results op ≡ [] → ((ps : List ℕ) → spares op ps ≡ list_all (lacks []) ps)
+        → IsFree (record { guard = f.guard; op = op }) i
     free op none spare = record {
       words = ap (λ rs. list_all (lacks rs) (reads i.op)) none ∙ lacks_none (reads i.op);
       preds = all_spared (tests i);
@@ -100,6 +108,9 @@ flow_free f i h = so f.op h
     so _ h = absurd (true≢false (sym h))
 
 -- it may as well come after it
-pub beside_once : (from : Sources) (flow last : Slots) (i : Instr) (m : Run) → IsWhole m → Leaving flow i last → once from (lone i) (once from (lone flow.first) m) ≡ once from flow m
+pub beside_once : (from : Sources) (flow last : Slots) (i : Instr) (m : Run) → IsWhole m → Leaving flow i last
+    → once from (lone i) (once from (lone flow.first) m) ≡ once from flow m
 beside_once from flow last i m whole out =
-    sym (joined_once from flow.first i m whole (ap (λ second. second || is_long i.op) out.kind) (flow_free flow.first i out.flows)) ∙ (λ k. once from (record { first = flow.first; second = sym out.beside k }) m)
+    sym (joined_once from flow.first i m whole (ap (λ second. second || is_long i.op) out.kind)
+    (flow_free flow.first i out.flows))
+    ∙ (λ k. once from (record { first = flow.first; second = sym out.beside k }) m)

@@ -31,7 +31,8 @@ use Rattle.bundle_sched.proofs.Unwritten.{alone, after_one}
 
 pub idle_once : (from : Sources) (m : Run) → IsWhole m → once from idle m ≡ m
 idle_once from m whole =
-    sym (early_once from idle m whole refl) ∙ idle_settles from m whole.fits ∙ ap (with_regs m) (settled_same m.regs whole.fits whole.pending)
+    sym (early_once from idle m whole refl) ∙ idle_settles from m whole.fits
+    ∙ ap (with_regs m) (settled_same m.regs whole.fits whole.pending)
 
 -- ---- two in one
 
@@ -44,7 +45,8 @@ plain_early (Load space width rd ra imm) plain = absurd (true≢false (sym plain
 plain_early (Mul unsigned ra rb) plain = absurd (true≢false (sym plain))
 plain_early _ plain = refl
 
-plain_asked : (on : Bool) (op : Op) (regs : Registers) → is_plain_op op ≡ true → (if on then asked regs op else effect.Nothing) ≡ effect.Nothing
+plain_asked : (on : Bool) (op : Op) (regs : Registers) → is_plain_op op ≡ true
+    → (if on then asked regs op else effect.Nothing) ≡ effect.Nothing
 plain_asked false op regs plain = refl
 plain_asked true (AluImm func rd ra imm) regs plain = refl
 plain_asked true (AluReg func rd ra rb) regs plain = refl
@@ -55,10 +57,13 @@ plain_asked true (Comb func pd a b) regs plain = refl
 plain_asked true _ regs plain = absurd (true≢false (sym plain))
 
 pub plain_once : (from : Sources) (b : Slots) (m : Run) → IsWhole m → is_plain_op b.first.op ≡ true
-    → once from b m ≡ with_regs m (three (slot_write m.st m.ss m.regs b.first) (second_write m.st m.ss m.regs b.second) write.Nothing m.regs)
+    → once from b m ≡ with_regs m (three (slot_write m.st m.ss m.regs b.first) (second_write m.st m.ss m.regs b.second)
+    write.Nothing m.regs)
 plain_once from b m whole plain =
     early_told from b m whole (plain_early b.first.op plain)
-    ∙ ap (λ e. with_regs (effected from e m) (three (slot_write m.st m.ss m.regs b.first) (second_write m.st m.ss m.regs b.second) write.Nothing m.regs)) (plain_asked (holds m.regs b.first.guard) b.first.op m.regs plain)
+    ∙ ap (λ e. with_regs (effected from e m) (three (slot_write m.st m.ss m.regs b.first)
+    (second_write m.st m.ss m.regs b.second) write.Nothing m.regs))
+    (plain_asked (holds m.regs b.first.guard) b.first.op m.regs plain)
 
 -- two writes at once, and one after the other
 pub two_writes : (v w : Write) (regs : Registers) → after_one w (after_one v regs) ≡ three v w write.Nothing regs

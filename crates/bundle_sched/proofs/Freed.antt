@@ -18,12 +18,18 @@ use Rattle.bundle_sched.specs.Packing.{can_move, filled, can_leave, freed}
 -- ---- a second instruction that does nothing
 
 -- what holds of each bundle and itself, and where one that does nothing leaves it
-pub without_nop_as : (P : Slots → Slots → Type 0) → ((b : Slots) → P b b) → ((b : Slots) (i : Instr) → b.second ≡ Some i → is_nop i ≡ true → P (lone b.first) b) → (b : Slots) → P (without_nop b) b
+pub without_nop_as : (P : Slots → Slots → Type 0) → ((b : Slots) → P b b) → ((b : Slots) (i : Instr) → b.second ≡ Some i
+    → is_nop i ≡ true → P (lone b.first) b) → (b : Slots) → P (without_nop b) b
 without_nop_as P same leaves b = so b.second refl
   where
-    so : (o : Option Instr) → b.second ≡ o → P (elim o as (λ _. Slots) [ None ↦ b | Some i ↦ if is_nop i then lone b.first else b ]) b
+    so : (o : Option Instr) → b.second ≡ o
+        → P (elim o as (λ _. Slots) [ None ↦ b | Some i ↦ if is_nop i then lone b.first else b ]) b
     so None is = same b
-    so (Some i) is = elim (is_nop i) as (λ nop. is_nop i ≡ nop → P (if nop then lone b.first else b) b) [ true ↦ λ nop. leaves b i is nop | false ↦ λ busy. same b ] refl
+    so (Some i) is = elim (is_nop i) as (λ nop. is_nop i ≡ nop → P (if nop then lone b.first else b) b) [
+      | true ↦ λ nop.
+          leaves b i is nop
+      | false ↦ λ busy. same b
+    ] refl
 
 pub nop_idle : (i : Instr) → is_nop i ≡ true → is_idle (lone i) ≡ true
 nop_idle i nop = ap (λ o. is_always i.guard && o) (and-true (is_idle_op i.op)) ∙ nop
@@ -38,17 +44,25 @@ pub record Leaving (flow : Slots) (i : Instr) (last : Slots) : Type 0 where
 
 -- what holds of each tail and itself, and where the instruction leaves its flow
 pub freed_as : (P : List Slots → List Slots → Type 0) → ((tail : List Slots) → P tail tail)
-    → ((flow slot : Slots) (slots : List Slots) (i : Instr) → Leaving flow i (last_or slot slots) → P (filled (lone i) (lone flow.first ∷ slot ∷ slots)) (flow ∷ slot ∷ slots)) → (tail : List Slots) → P (freed tail) tail
+    → ((flow slot : Slots) (slots : List Slots) (i : Instr) → Leaving flow i (last_or slot slots)
+    → P (filled (lone i) (lone flow.first ∷ slot ∷ slots)) (flow ∷ slot ∷ slots)) → (tail : List Slots)
+    → P (freed tail) tail
 freed_as P same leaves [] = same []
 freed_as P same leaves (flow ∷ []) = same (flow ∷ [])
 freed_as P same leaves (flow ∷ slot ∷ slots) = so flow.second refl
   where
     so : (o : Option Instr) → flow.second ≡ o
-        → P (elim o as (λ _. List Slots) [ None ↦ flow ∷ slot ∷ slots | Some i ↦ if can_leave flow i (last_or slot slots) then filled (lone i) (lone flow.first ∷ slot ∷ slots) else flow ∷ slot ∷ slots ]) (flow ∷ slot ∷ slots)
+        → P (elim o as (λ _. List Slots) [
+          | None ↦ flow ∷ slot ∷ slots
+          | Some i ↦ if can_leave flow i
+              (last_or slot slots) then filled (lone i) (lone flow.first ∷ slot ∷ slots) else flow ∷ slot ∷ slots
+        ])
+        (flow ∷ slot ∷ slots)
     so None is = same (flow ∷ slot ∷ slots)
     so (Some i) is =
         elim (can_leave flow i (last_or slot slots)) as (λ can. can_leave flow i (last_or slot slots) ≡ can
-        → P (if can then filled (lone i) (lone flow.first ∷ slot ∷ slots) else flow ∷ slot ∷ slots) (flow ∷ slot ∷ slots)) [
+        → P (if can then filled (lone i) (lone flow.first ∷ slot ∷ slots) else flow ∷ slot ∷ slots) (flow
+        ∷ slot ∷ slots)) [
           | true ↦ λ can.
               let one = and_parts (is_flow flow.first.op) (is_second_kind i.op && is_idle (last_or slot slots)) can in
               let two = and_parts (is_second_kind i.op) (is_idle (last_or slot slots)) one.1 in
@@ -60,7 +74,8 @@ freed_as P same leaves (flow ∷ slot ∷ slots) = so flow.second refl
 pub second_moves : (i : Instr) → is_second_kind i.op ≡ true → can_move (lone i) ≡ true
 second_moves i kind = so i.op kind
   where
-    so : (op : Op) → is_second_kind op ≡ true → (not (is_late op) && (not (is_flow op) && not (is_special op || false))) ≡ true
+    so : (op : Op) → is_second_kind op ≡ true → (not (is_late op) && (not (is_flow op) && not (is_special op || false)))
+        ≡ true
     so (AluImm func rd ra imm) h = refl
     so (AluReg func rd ra rb) h = refl
     so (Cmp func pd ra rb) h = refl
@@ -69,8 +84,11 @@ second_moves i kind = so i.op kind
     so _ h = absurd (true≢false (sym h))
 
 -- what holds of a tail, by the first instructions of its bundles, holds of it with the flow alone
-pub freed_holds : (holds : List Slots → Bool) → ((b : Slots) (tail : List Slots) → can_move b ≡ true → holds tail ≡ true → holds (filled b tail) ≡ true)
-    → ((flow : Slots) (slots : List Slots) → holds (flow ∷ slots) ≡ true → holds (lone flow.first ∷ slots) ≡ true) → (tail : List Slots) → holds tail ≡ true → holds (freed tail) ≡ true
+pub freed_holds : (holds : List Slots → Bool) → ((b : Slots) (tail : List Slots) → can_move b ≡ true → holds tail ≡ true
+    → holds (filled b tail) ≡ true)
+    → ((flow : Slots) (slots : List Slots) → holds (flow ∷ slots) ≡ true → holds (lone flow.first ∷ slots) ≡ true)
+    → (tail : List Slots) → holds tail ≡ true → holds (freed tail) ≡ true
 freed_holds holds fills alone =
     freed_as (λ xs tail. holds tail ≡ true → holds xs ≡ true) (λ tail h. h)
-    (λ flow slot slots i out h. fills (lone i) (lone flow.first ∷ slot ∷ slots) (second_moves i out.kind) (alone flow (slot ∷ slots) h))
+    (λ flow slot slots i out h. fills (lone i) (lone flow.first ∷ slot ∷ slots) (second_moves i out.kind)
+    (alone flow (slot ∷ slots) h))

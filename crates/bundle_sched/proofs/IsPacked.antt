@@ -15,12 +15,12 @@ use Rattle.sp_shape.specs.Words.{is_late}
 use Rattle.patmos_instr.specs.declared.instructions.Instr.{Instr}
 use Rattle.patmos_instr.specs.declared.instructions.Op.{Op}
 use Rattle.sp_shape.proofs.Lists.{calm_append, all_append, all_weaker}
-use Rattle.bundle_sched.proofs.BehindFlow.{flow_early}
+use Rattle.bundle_sched.proofs.AfterFlow.{flow_early}
 use Rattle.bundle_sched.proofs.PackedFormed.{calm_packed}
 use Rattle.bundle_sched.proofs.SpacedAll.{awaited_late}
 use Rattle.bundle_sched.proofs.SpacedFormed.{none_awaited}
 use Rattle.bundle_sched.specs.Placed.{is_awaited, spaced, parts_placed}
-use Rattle.bundle_sched.specs.Ordered.{without_nop, put, ordered_behind, ordered}
+use Rattle.bundle_sched.specs.Ordered.{without_nop, put, ordered_after, ordered}
 use Rattle.bundle_sched.specs.Packed.{is_small, can_join, can_pair, mergeable, none_mergeable, first_apart, pair, is_nop, is_filled, holds_special, last_or, slot_used, is_used, can_follow, some_bundle, part_packed, parts_packed, lone}
 use Rattle.bundle_sched.specs.Legal.{has_legal_flow, parts_legal}
 use Rattle.bundle_sched.specs.Packing.{paired, in_pairs, packed, can_move, spares_guard, lets_pass, has_room, filled, but_last, goes_down, kept_by_one, way_by_one, kept_after, way_after, can_leave, freed, kept, way, before_branch, from_branch, arranged, iteration_packed, straights, left_over, parts_merged}
@@ -43,31 +43,37 @@ pairless _ = true
 pair_full : (z a b : Slots) → can_pair z (pair a b) ≡ false
 pair_full z a b = second_false (not (is_late z.first.op)) (is_small z && false) (second_false (is_small z) false refl)
 
-behind_paired : (z a : Slots) (bs : List Slots) → can_pair z a ≡ false → pairless (z ∷ paired a bs) ≡ true
-behind_paired z a [] apart = and_from (not (can_pair z a)) true (ap not apart) refl
-behind_paired z a (b ∷ bs) apart =
-    elim (is_idle b) as (λ idles. pairless (z ∷ (if idles then paired a bs else (if can_pair a b then paired (pair a b) bs else a ∷ paired b bs))) ≡ true) [
-      | true ↦ behind_paired z a bs apart
-      | false ↦ elim (can_pair a b) as (λ can. can_pair a b ≡ can → pairless (z ∷ (if can then paired (pair a b) bs else a ∷ paired b bs)) ≡ true) [
-        | true ↦ λ is. behind_paired z (pair a b) bs (pair_full z a b)
-        | false ↦ λ is. and_from (not (can_pair z a)) (pairless (a ∷ paired b bs)) (ap not apart) (behind_paired a b bs is)
-      ] refl
+after_paired : (z a : Slots) (bs : List Slots) → can_pair z a ≡ false → pairless (z ∷ paired a bs) ≡ true
+after_paired z a [] apart = and_from (not (can_pair z a)) true (ap not apart) refl
+after_paired z a (b ∷ bs) apart =
+    elim (is_idle b) as (λ idles. pairless (z ∷ (if idles then paired a bs else
+    (if can_pair a b then paired (pair a b) bs else a ∷ paired b bs))) ≡ true) [
+      | true ↦ after_paired z a bs apart
+      | false ↦ elim (can_pair a b) as (λ can. can_pair a b ≡ can
+          → pairless (z ∷ (if can then paired (pair a b) bs else a ∷ paired b bs)) ≡ true) [
+            | true ↦ λ is. after_paired z (pair a b) bs (pair_full z a b)
+            | false ↦ λ is. and_from (not (can_pair z a)) (pairless (a ∷ paired b bs)) (ap not apart)
+                (after_paired a b bs is)
+          ] refl
     ]
 
 paired_pairless : (a : Slots) (bs : List Slots) → pairless (paired a bs) ≡ true
 paired_pairless a [] = refl
 paired_pairless a (b ∷ bs) =
-    elim (is_idle b) as (λ idles. pairless (if idles then paired a bs else (if can_pair a b then paired (pair a b) bs else a ∷ paired b bs)) ≡ true) [
+    elim (is_idle b) as (λ idles. pairless (if idles then paired a bs else
+    (if can_pair a b then paired (pair a b) bs else a ∷ paired b bs)) ≡ true) [
       | true ↦ paired_pairless a bs
-      | false ↦ elim (can_pair a b) as (λ can. can_pair a b ≡ can → pairless (if can then paired (pair a b) bs else a ∷ paired b bs) ≡ true) [
-        | true ↦ λ is. paired_pairless (pair a b) bs
-        | false ↦ λ is. behind_paired a b bs is
-      ] refl
+      | false ↦ elim (can_pair a b) as (λ can. can_pair a b ≡ can → pairless (if can then paired (pair a b) bs else a
+          ∷ paired b bs) ≡ true) [
+            | true ↦ λ is. paired_pairless (pair a b) bs
+            | false ↦ λ is. after_paired a b bs is
+          ] refl
     ]
 
 pairs_pairless : (bs : List Slots) → pairless (in_pairs bs) ≡ true
 pairs_pairless [] = refl
-pairs_pairless (b ∷ bs) = elim (is_idle b) as (λ idles. pairless (if idles then in_pairs bs else paired b bs) ≡ true) [ true ↦ pairs_pairless bs | false ↦ paired_pairless b bs ]
+pairs_pairless (b ∷ bs) = elim (is_idle b) as (λ idles. pairless (if idles then in_pairs bs else paired b bs) ≡ true)
+    [ true ↦ pairs_pairless bs | false ↦ paired_pairless b bs ]
 
 packed_pairless : (bs : List Slots) → pairless (packed bs) ≡ true
 packed_pairless bs = pairs_pairless (ordered bs)
@@ -81,7 +87,8 @@ front_pairless b (c ∷ d ∷ ds) h =
 
 one_pairless : (bs tail : List Slots) → pairless bs ≡ true → pairless (kept_by_one bs tail) ≡ true
 one_pairless [] tail h = refl
-one_pairless (b ∷ bs) tail h = elim (goes_down (b ∷ bs) tail) as (λ down. pairless (if down then but_last b bs else b ∷ bs) ≡ true) [ true ↦ front_pairless b bs h | false ↦ h ]
+one_pairless (b ∷ bs) tail h = elim (goes_down (b ∷ bs) tail) as (λ down. pairless (if down then but_last b bs else b
+    ∷ bs) ≡ true) [ true ↦ front_pairless b bs h | false ↦ h ]
 
 kept_pairless : (n : ℕ) (bs tail : List Slots) → pairless bs ≡ true → pairless (kept_after n bs tail) ≡ true
 kept_pairless zero bs tail h = h
@@ -89,7 +96,8 @@ kept_pairless (suc n) bs tail h = kept_pairless n (kept_by_one bs tail) (way_by_
 
 -- ---- spaced, no three are mergeable
 
-merge_from : (x a b : Slots) (bs : List Slots) → mergeable x a b ≡ false → none_mergeable (a ∷ b ∷ bs) ≡ true → none_mergeable (x ∷ a ∷ b ∷ bs) ≡ true
+merge_from : (x a b : Slots) (bs : List Slots) → mergeable x a b ≡ false → none_mergeable (a ∷ b ∷ bs) ≡ true
+    → none_mergeable (x ∷ a ∷ b ∷ bs) ≡ true
 merge_from x a b bs apart h = and_from (not (mergeable x a b)) (none_mergeable (a ∷ b ∷ bs)) (ap not apart) h
 
 after_late : (x : Slots) → is_late x.first.op ≡ true → (a b : Slots) → mergeable x a b ≡ false
@@ -99,37 +107,45 @@ late_alone : (x a b : Slots) → is_late a.first.op ≡ true → mergeable x a b
 late_alone x a b late = second_false (not (is_late x.first.op)) (can_pair a b) (ap (λ l. not l && can_join a b) late)
 
 -- three of which the first or the second is late, or the two after cannot be one
-before_any : (x a : Slots) (ys : List Slots) → ((b : Slots) → mergeable x a b ≡ false) → none_mergeable (a ∷ ys) ≡ true → none_mergeable (x ∷ a ∷ ys) ≡ true
+before_any : (x a : Slots) (ys : List Slots) → ((b : Slots) → mergeable x a b ≡ false) → none_mergeable (a ∷ ys) ≡ true
+    → none_mergeable (x ∷ a ∷ ys) ≡ true
 before_any x a [] apart h = refl
 before_any x a (b ∷ ys) apart h = merge_from x a b ys (apart b) h
 
-before_head : (x a c : Slots) (awaited : Bool) (ys : List Slots) → mergeable x a c ≡ false → none_mergeable (a ∷ ((if awaited then c ∷ idle ∷ [] else c ∷ []) ++ ys)) ≡ true
+before_head : (x a c : Slots) (awaited : Bool) (ys : List Slots) → mergeable x a c ≡ false
+    → none_mergeable (a ∷ ((if awaited then c ∷ idle ∷ [] else c ∷ []) ++ ys)) ≡ true
     → none_mergeable (x ∷ a ∷ ((if awaited then c ∷ idle ∷ [] else c ∷ []) ++ ys)) ≡ true
 before_head x a c true ys apart h = merge_from x a c (idle ∷ ys) apart h
 before_head x a c false ys apart h = merge_from x a c ys apart h
 
-spaced_behind : (x : Slots) (bs : List Slots) → pairless bs ≡ true → none_mergeable (x ∷ spaced bs) ≡ true
-spaced_behind x [] h = refl
-spaced_behind x (b ∷ []) h =
-    elim (is_late b.first.op) as (λ late. is_late b.first.op ≡ late → none_mergeable (x ∷ ((if late then b ∷ idle ∷ [] else b ∷ []) ++ [])) ≡ true) [
+spaced_after : (x : Slots) (bs : List Slots) → pairless bs ≡ true → none_mergeable (x ∷ spaced bs) ≡ true
+spaced_after x [] h = refl
+spaced_after x (b ∷ []) h =
+    elim (is_late b.first.op) as (λ late. is_late b.first.op ≡ late
+    → none_mergeable (x ∷ ((if late then b ∷ idle ∷ [] else b ∷ []) ++ [])) ≡ true) [
       | true ↦ λ is. before_any x b (idle ∷ []) (λ c. late_alone x b c is) refl
       | false ↦ λ is. refl
     ] refl
-spaced_behind x (b ∷ c ∷ cs) h =
+spaced_after x (b ∷ c ∷ cs) h =
     let both = and_parts (not (can_pair b c)) (pairless (c ∷ cs)) h in
-    elim (is_awaited b (c ∷ cs)) as (λ awaited. is_awaited b (c ∷ cs) ≡ awaited → none_mergeable (x ∷ ((if awaited then b ∷ idle ∷ [] else b ∷ []) ++ spaced (c ∷ cs))) ≡ true) [
+    elim (is_awaited b (c ∷ cs)) as (λ awaited. is_awaited b (c ∷ cs) ≡ awaited
+    → none_mergeable (x ∷ ((if awaited then b ∷ idle ∷ [] else b ∷ []) ++ spaced (c ∷ cs))) ≡ true) [
       | true ↦ λ is.
           let late = awaited_late b (c ∷ cs) is in
-          before_any x b (idle ∷ spaced (c ∷ cs)) (λ d. late_alone x b d late) (before_any b idle (spaced (c ∷ cs)) (λ d. after_late b late idle d) (spaced_behind idle (c ∷ cs) both.1))
-      | false ↦ λ is. before_head x b c (is_awaited c cs) (spaced cs) (second_false (not (is_late x.first.op)) (can_pair b c) (not-true (can_pair b c) both.0)) (spaced_behind b (c ∷ cs) both.1)
+          before_any x b (idle ∷ spaced (c ∷ cs)) (λ d. late_alone x b d late) (before_any b idle (spaced (c ∷ cs))
+          (λ d. after_late b late idle d) (spaced_after idle (c ∷ cs) both.1))
+      | false ↦ λ is. before_head x b c (is_awaited c cs) (spaced cs) (second_false (not (is_late x.first.op))
+          (can_pair b c) (not-true (can_pair b c) both.0)) (spaced_after b (c ∷ cs) both.1)
     ] refl
 
 spaced_none : (bs : List Slots) → pairless bs ≡ true → none_mergeable (spaced bs) ≡ true
 spaced_none [] h = refl
 spaced_none (b ∷ bs) h =
-    elim (is_awaited b bs) as (λ awaited. is_awaited b bs ≡ awaited → none_mergeable ((if awaited then b ∷ idle ∷ [] else b ∷ []) ++ spaced bs) ≡ true) [
-      | true ↦ λ is. before_any b idle (spaced bs) (λ d. after_late b (awaited_late b bs is) idle d) (spaced_behind idle bs (rest_pairless b bs h))
-      | false ↦ λ is. spaced_behind b bs (rest_pairless b bs h)
+    elim (is_awaited b bs) as (λ awaited. is_awaited b bs ≡ awaited
+    → none_mergeable ((if awaited then b ∷ idle ∷ [] else b ∷ []) ++ spaced bs) ≡ true) [
+      | true ↦ λ is. before_any b idle (spaced bs) (λ d. after_late b (awaited_late b bs is) idle d)
+          (spaced_after idle bs (rest_pairless b bs h))
+      | false ↦ λ is. spaced_after b bs (rest_pairless b bs h)
     ] refl
   where
     rest_pairless : (b : Slots) (bs : List Slots) → pairless (b ∷ bs) ≡ true → pairless bs ≡ true
@@ -140,7 +156,8 @@ spaced_none (b ∷ bs) h =
 first_spaced : (bs : List Slots) → pairless bs ≡ true → first_apart (spaced bs) ≡ true
 first_spaced [] h = refl
 first_spaced (b ∷ bs) h =
-    elim (is_awaited b bs) as (λ awaited. is_awaited b bs ≡ awaited → first_apart ((if awaited then b ∷ idle ∷ [] else b ∷ []) ++ spaced bs) ≡ true) [
+    elim (is_awaited b bs) as (λ awaited. is_awaited b bs ≡ awaited
+    → first_apart ((if awaited then b ∷ idle ∷ [] else b ∷ []) ++ spaced bs) ≡ true) [
       | true ↦ λ is. ap (λ late. not (not late && can_join b idle)) (awaited_late b bs is)
       | false ↦ λ is. so bs h
     ] refl
@@ -149,7 +166,8 @@ first_spaced (b ∷ bs) h =
     so [] h = refl
     so (c ∷ cs) h =
         let first = (and_parts (not (can_pair b c)) (pairless (c ∷ cs)) h).0 in
-        elim (is_awaited c cs) as (λ awaited. first_apart (b ∷ ((if awaited then c ∷ idle ∷ [] else c ∷ []) ++ spaced cs)) ≡ true) [ true ↦ first | false ↦ first ]
+        elim (is_awaited c cs) as (λ awaited. first_apart (b ∷ ((if awaited then c ∷ idle ∷ [] else c ∷ [])
+        ++ spaced cs)) ≡ true) [ true ↦ first | false ↦ first ]
 
 -- ---- no bundle of packed code does nothing, alone or in its second slot
 
@@ -159,13 +177,15 @@ is_busy b = not (is_idle b)
 alone_filled : (b : Slots) → is_alone b ≡ true → is_filled b ≡ true
 alone_filled b h = so b.second h
   where
-    so : (o : Option Instr) → is_none o ≡ true → (elim o as (λ _. Bool) [ None ↦ true | Some i ↦ not (is_nop i) ]) ≡ true
+    so : (o : Option Instr) → is_none o ≡ true → (elim o as (λ _. Bool) [ None ↦ true | Some i ↦ not (is_nop i) ])
+        ≡ true
     so None h = refl
     so (Some i) h = absurd (true≢false (sym h))
 
 busy_nop : (b : Slots) → is_alone b ≡ true → is_idle b ≡ false → is_nop b.first ≡ false
 busy_nop b alone busy =
-    elim (is_always b.first.guard) as (λ always. (always && (is_idle_op b.first.op && is_none b.second)) ≡ false → (always && is_idle_op b.first.op) ≡ false) [
+    elim (is_always b.first.guard) as (λ always. (always && (is_idle_op b.first.op && is_none b.second)) ≡ false
+    → (always && is_idle_op b.first.op) ≡ false) [
       | true ↦ λ h. sym (ap (λ n. is_idle_op b.first.op && n) alone ∙ and-true (is_idle_op b.first.op)) ∙ h
       | false ↦ λ h. refl
     ] busy
@@ -181,23 +201,29 @@ pair_busy a b = ap not (pair_idle a b)
 pair_filled : (a b : Slots) → is_idle b ≡ false → can_join a b ≡ true → is_filled (pair a b) ≡ true
 pair_filled a b busy can = ap not (busy_nop b (pairs a b can).second_alone busy)
 
-good_paired : (a : Slots) (bs : List Slots) → is_good a ≡ true → list_all is_filled bs ≡ true → list_all is_good (paired a bs) ≡ true
+good_paired : (a : Slots) (bs : List Slots) → is_good a ≡ true → list_all is_filled bs ≡ true
+    → list_all is_good (paired a bs) ≡ true
 good_paired a [] ha h = and_from (is_good a) true ha refl
 good_paired a (b ∷ bs) ha h =
     let both = and_parts (is_filled b) (list_all is_filled bs) h in
-    elim (is_idle b) as (λ idles. is_idle b ≡ idles → list_all is_good (if idles then paired a bs else (if can_pair a b then paired (pair a b) bs else a ∷ paired b bs)) ≡ true) [
+    elim (is_idle b) as (λ idles. is_idle b ≡ idles → list_all is_good (if idles then paired a bs else
+    (if can_pair a b then paired (pair a b) bs else a ∷ paired b bs)) ≡ true) [
       | true ↦ λ is. good_paired a bs ha both.1
-      | false ↦ λ is. elim (can_pair a b) as (λ can. can_pair a b ≡ can → list_all is_good (if can then paired (pair a b) bs else a ∷ paired b bs) ≡ true) [
-        | true ↦ λ can. good_paired (pair a b) bs (and_from (is_filled (pair a b)) (is_busy (pair a b)) (pair_filled a b is (and_parts (not (is_late a.first.op)) (can_join a b) can).1) (pair_busy a b)) both.1
-        | false ↦ λ can. and_from (is_good a) (list_all is_good (paired b bs)) ha (good_paired b bs (and_from (is_filled b) (is_busy b) both.0 (ap not is)) both.1)
-      ] refl
+      | false ↦ λ is. elim (can_pair a b) as (λ can. can_pair a b ≡ can
+          → list_all is_good (if can then paired (pair a b) bs else a ∷ paired b bs) ≡ true) [
+            | true ↦ λ can. good_paired (pair a b) bs (and_from (is_filled (pair a b)) (is_busy (pair a b))
+                (pair_filled a b is (and_parts (not (is_late a.first.op)) (can_join a b) can).1) (pair_busy a b)) both.1
+            | false ↦ λ can. and_from (is_good a) (list_all is_good (paired b bs)) ha
+                (good_paired b bs (and_from (is_filled b) (is_busy b) both.0 (ap not is)) both.1)
+          ] refl
     ] refl
 
 good_pairs : (bs : List Slots) → list_all is_filled bs ≡ true → list_all is_good (in_pairs bs) ≡ true
 good_pairs [] h = refl
 good_pairs (b ∷ bs) h =
     let both = and_parts (is_filled b) (list_all is_filled bs) h in
-    elim (is_idle b) as (λ idles. is_idle b ≡ idles → list_all is_good (if idles then in_pairs bs else paired b bs) ≡ true) [
+    elim (is_idle b) as (λ idles. is_idle b ≡ idles → list_all is_good (if idles then in_pairs bs else paired b bs)
+    ≡ true) [
       | true ↦ λ is. good_pairs bs both.1
       | false ↦ λ is. good_paired b bs (and_from (is_filled b) (is_busy b) both.0 (ap not is)) both.1
     ] refl
@@ -206,7 +232,8 @@ good_pairs (b ∷ bs) h =
 nop_filled : (b : Slots) → is_filled (without_nop b) ≡ true
 nop_filled b = so b.second refl
   where
-    so : (o : Option Instr) → b.second ≡ o → is_filled (elim o as (λ _. Slots) [ None ↦ b | Some i ↦ if is_nop i then lone b.first else b ]) ≡ true
+    so : (o : Option Instr) → b.second ≡ o
+        → is_filled (elim o as (λ _. Slots) [ None ↦ b | Some i ↦ if is_nop i then lone b.first else b ]) ≡ true
     so None is = ap (λ o. elim o as (λ _. Bool) [ None ↦ true | Some i ↦ not (is_nop i) ]) is
     so (Some i) is =
         elim (is_nop i) as (λ nop. is_nop i ≡ nop → is_filled (if nop then lone b.first else b) ≡ true) [
@@ -214,27 +241,32 @@ nop_filled b = so b.second refl
           | false ↦ λ busy. ap (λ o. elim o as (λ _. Bool) [ None ↦ true | Some i ↦ not (is_nop i) ]) is ∙ ap not busy
         ] refl
 
-behind_filled : (done bs : List Slots) → list_all is_filled (cleaned done) ≡ true → list_all is_filled (cleaned (ordered_behind done bs)) ≡ true
-behind_filled done [] h = h
-behind_filled done (b ∷ bs) h =
+after_filled : (done bs : List Slots) → list_all is_filled (cleaned done) ≡ true
+    → list_all is_filled (cleaned (ordered_after done bs)) ≡ true
+after_filled done [] h = h
+after_filled done (b ∷ bs) h =
     let c = without_nop b in
-    elim (is_idle c) as (λ idles. is_idle c ≡ idles → list_all is_filled (cleaned (ordered_behind (if idles then done else put c done) bs)) ≡ true) [
-      | true ↦ λ is. behind_filled done bs h
+    elim (is_idle c) as (λ idles. is_idle c ≡ idles
+    → list_all is_filled (cleaned (ordered_after (if idles then done else put c done) bs)) ≡ true) [
+      | true ↦ λ is. after_filled done bs h
       | false ↦ λ busy.
-          behind_filled (put c done) bs
-          (put_steps (λ xs ys. list_all is_filled xs ≡ true → list_all is_filled ys ≡ true) (all_steps is_filled (λ b h. refl) (λ a b busy can ha hb. pair_filled a b busy can)) c busy done
+          after_filled (put c done) bs
+          (put_steps (λ xs ys. list_all is_filled xs ≡ true → list_all is_filled ys ≡ true)
+          (all_steps is_filled (λ b h. refl) (λ a b busy can ha hb. pair_filled a b busy can)) c busy done
           (all_append is_filled (cleaned done) (c ∷ []) h (and_from (is_filled c) true (nop_filled b) refl)))
     ] refl
 
 good_packed : (bs : List Slots) → list_all is_good (packed bs) ≡ true
-good_packed bs = ap (list_all is_good) (sym (pairs_cleaned (ordered bs))) ∙ good_pairs (cleaned (ordered bs)) (behind_filled [] bs refl)
+good_packed bs = ap (list_all is_good) (sym (pairs_cleaned (ordered bs)))
+    ∙ good_pairs (cleaned (ordered bs)) (after_filled [] bs refl)
 
 filled_spaced : (bs : List Slots) → list_all is_filled bs ≡ true → list_all is_filled (spaced bs) ≡ true
 filled_spaced [] h = refl
 filled_spaced (b ∷ bs) h =
     let both = and_parts (is_filled b) (list_all is_filled bs) h in
     let others = filled_spaced bs both.1 in
-    elim (is_awaited b bs) as (λ awaited. list_all is_filled ((if awaited then b ∷ idle ∷ [] else b ∷ []) ++ spaced bs) ≡ true) [
+    elim (is_awaited b bs) as (λ awaited. list_all is_filled ((if awaited then b ∷ idle ∷ [] else b ∷ []) ++ spaced bs)
+    ≡ true) [
       | true ↦ and_from (is_filled b) (list_all is_filled (spaced bs)) both.0 others
       | false ↦ and_from (is_filled b) (list_all is_filled (spaced bs)) both.0 others
     ]
@@ -242,19 +274,23 @@ filled_spaced (b ∷ bs) h =
 -- ---- pieces of straight code
 
 some_spaced : (b : Slots) (bs : List Slots) → some_bundle (spaced (b ∷ bs)) ≡ true
-some_spaced b bs = elim (is_awaited b bs) as (λ awaited. some_bundle ((if awaited then b ∷ idle ∷ [] else b ∷ []) ++ spaced bs) ≡ true) [ true ↦ refl | false ↦ refl ]
+some_spaced b bs = elim (is_awaited b bs) as (λ awaited. some_bundle ((if awaited then b ∷ idle ∷ [] else b ∷ [])
+    ++ spaced bs) ≡ true) [ true ↦ refl | false ↦ refl ]
 
 good_fills : (b : Slots) → is_good b ≡ true → is_filled b ≡ true
 good_fills b h = (and_parts (is_filled b) (is_busy b) h).0
 
-straights_packed : (bs : List Slots) (rest : PlainParts) → list_all is_good bs ≡ true → pairless bs ≡ true → can_follow (straight (spaced bs)) (parts_placed rest) ≡ true → parts_packed (parts_placed rest) ≡ true
+straights_packed : (bs : List Slots) (rest : PlainParts) → list_all is_good bs ≡ true → pairless bs ≡ true
+    → can_follow (straight (spaced bs)) (parts_placed rest) ≡ true → parts_packed (parts_placed rest) ≡ true
     → parts_packed (parts_placed (straights bs rest)) ≡ true
 straights_packed [] rest good apart follows h = h
 straights_packed (b ∷ bs) rest good apart follows h =
     let cs = spaced (b ∷ bs) in
-    and_from (some_bundle cs && (list_all is_filled cs && (first_apart cs && none_mergeable cs))) (can_follow (straight cs) (parts_placed rest) && parts_packed (parts_placed rest))
+    and_from (some_bundle cs && (list_all is_filled cs && (first_apart cs && none_mergeable cs)))
+    (can_follow (straight cs) (parts_placed rest) && parts_packed (parts_placed rest))
     (and_from (some_bundle cs) (list_all is_filled cs && (first_apart cs && none_mergeable cs)) (some_spaced b bs)
-    (and_from (list_all is_filled cs) (first_apart cs && none_mergeable cs) (filled_spaced (b ∷ bs) (all_weaker is_good is_filled good_fills (b ∷ bs) good))
+    (and_from (list_all is_filled cs) (first_apart cs && none_mergeable cs)
+    (filled_spaced (b ∷ bs) (all_weaker is_good is_filled good_fills (b ∷ bs) good))
     (and_from (first_apart cs) (none_mergeable cs) (first_spaced (b ∷ bs) apart) (spaced_none (b ∷ bs) apart))))
     (and_from (can_follow (straight cs) (parts_placed rest)) (parts_packed (parts_placed rest)) follows h)
 
@@ -272,14 +308,18 @@ used_by_slot : (bs tail : List Slots) → slot_used tail ≡ true → is_used bs
 used_by_slot [] tail h = refl
 used_by_slot (b ∷ bs) tail h = or_true (is_idle (last_or b bs) || holds_special (last_or b bs)) (slot_used tail) h
 
-used_by_last : (z : Slots) (bs tail : List Slots) → (is_idle (last_or z bs) || holds_special (last_or z bs)) ≡ true → is_used bs tail ≡ true
+used_by_last : (z : Slots) (bs tail : List Slots) → (is_idle (last_or z bs) || holds_special (last_or z bs)) ≡ true
+    → is_used bs tail ≡ true
 used_by_last z [] tail h = refl
 used_by_last z (b ∷ bs) tail h = or_first (is_idle (last_or b bs) || holds_special (last_or b bs)) (slot_used tail) h
 
-last_spaced : (z c : Slots) (cs : List Slots) → last_or z (spaced (c ∷ cs)) ≡ (if is_late (last_or c cs).first.op then idle else last_or c cs)
-last_spaced z c [] = elim (is_late c.first.op) as (λ late. last_or z ((if late then c ∷ idle ∷ [] else c ∷ []) ++ []) ≡ (if late then idle else c)) [ true ↦ refl | false ↦ refl ]
+last_spaced : (z c : Slots) (cs : List Slots) → last_or z (spaced (c ∷ cs))
+    ≡ (if is_late (last_or c cs).first.op then idle else last_or c cs)
+last_spaced z c [] = elim (is_late c.first.op) as (λ late. last_or z ((if late then c ∷ idle ∷ [] else c ∷ []) ++ [])
+    ≡ (if late then idle else c)) [ true ↦ refl | false ↦ refl ]
 last_spaced z c (d ∷ ds) =
-    elim (is_awaited c (d ∷ ds)) as (λ awaited. last_or z ((if awaited then c ∷ idle ∷ [] else c ∷ []) ++ spaced (d ∷ ds)) ≡ (if is_late (last_or d ds).first.op then idle else last_or d ds)) [
+    elim (is_awaited c (d ∷ ds)) as (λ awaited. last_or z ((if awaited then c ∷ idle ∷ [] else c ∷ [])
+    ++ spaced (d ∷ ds)) ≡ (if is_late (last_or d ds).first.op then idle else last_or d ds)) [
       | true ↦ last_spaced idle d ds
       | false ↦ last_spaced c d ds
     ]
@@ -294,34 +334,45 @@ slot_spaced [] h = absurd (true≢false (sym h))
 slot_spaced (t ∷ []) h = absurd (true≢false (sym h))
 slot_spaced (t ∷ b ∷ slots) h =
     let both = and_parts (is_flow t.first.op) (is_busy b) h in
-    ap (λ awaited. slot_used ((if awaited then t ∷ idle ∷ [] else t ∷ []) ++ spaced (b ∷ slots))) (none_awaited t (b ∷ slots) (flow_early t.first.op both.0))
-    ∙ elim (is_awaited b slots) as (λ awaited. slot_used (t ∷ ((if awaited then b ∷ idle ∷ [] else b ∷ []) ++ spaced slots)) ≡ true) [ true ↦ both.1 | false ↦ both.1 ]
+    ap (λ awaited. slot_used ((if awaited then t ∷ idle ∷ [] else t ∷ []) ++ spaced (b ∷ slots)))
+    (none_awaited t (b ∷ slots) (flow_early t.first.op both.0))
+    ∙ elim (is_awaited b slots) as (λ awaited. slot_used (t ∷ ((if awaited then b ∷ idle ∷ [] else b ∷ [])
+    ++ spaced slots)) ≡ true) [ true ↦ both.1 | false ↦ both.1 ]
 
-filled_busy : (b : Slots) (tail : List Slots) → has_room b tail ≡ true → is_busy b ≡ true → slot_busy (filled b tail) ≡ true
+filled_busy : (b : Slots) (tail : List Slots) → has_room b tail ≡ true → is_busy b ≡ true
+    → slot_busy (filled b tail) ≡ true
 filled_busy b [] room busy = absurd (true≢false (sym room))
 filled_busy b (t ∷ []) room busy = absurd (true≢false (sym room))
 filled_busy b (t ∷ slot ∷ slots) room busy =
     let both = and_parts (lets_pass t b) (is_idle (last_or slot slots)) room in
-    and_from (is_flow t.first.op) (is_busy b) (and_parts (is_flow t.first.op) (is_none t.second && spares_guard b t.first.guard) both.0).0 busy
+    and_from (is_flow t.first.op) (is_busy b) (and_parts (is_flow t.first.op)
+    (is_none t.second && spares_guard b t.first.guard) both.0).0 busy
 
 last_good : (b : Slots) (bs : List Slots) → list_all is_good (b ∷ bs) ≡ true → is_busy (last_or b bs) ≡ true
-last_good b bs good = (and_parts (is_filled (last_or b bs)) (is_busy (last_or b bs)) (all_but_last is_good b bs good).1).1
+last_good b bs good =
+    (and_parts (is_filled (last_or b bs)) (is_busy (last_or b bs)) (all_but_last is_good b bs good).1).1
 
 -- it stays so
-one_busy : (bs tail : List Slots) → list_all is_good bs ≡ true → slot_busy tail ≡ true → slot_busy (way_by_one bs tail) ≡ true
+one_busy : (bs tail : List Slots) → list_all is_good bs ≡ true → slot_busy tail ≡ true → slot_busy (way_by_one bs tail)
+    ≡ true
 one_busy [] tail good h = h
 one_busy (b ∷ bs) tail good h =
-    elim (goes_down (b ∷ bs) tail) as (λ down. goes_down (b ∷ bs) tail ≡ down → slot_busy (if down then filled (last_or b bs) tail else tail) ≡ true) [
-      | true ↦ λ is. filled_busy (last_or b bs) tail (and_parts (can_move (last_or b bs)) (has_room (last_or b bs) tail) is).1 (last_good b bs good)
+    elim (goes_down (b ∷ bs) tail) as (λ down. goes_down (b ∷ bs) tail ≡ down
+    → slot_busy (if down then filled (last_or b bs) tail else tail) ≡ true) [
+      | true ↦ λ is. filled_busy (last_or b bs) tail (and_parts (can_move (last_or b bs)) (has_room (last_or b bs) tail)
+          is).1 (last_good b bs good)
       | false ↦ λ is. h
     ] refl
 
-way_busy : (n : ℕ) (bs tail : List Slots) → list_all is_good bs ≡ true → slot_busy tail ≡ true → slot_busy (way_after n bs tail) ≡ true
+way_busy : (n : ℕ) (bs tail : List Slots) → list_all is_good bs ≡ true → slot_busy tail ≡ true
+    → slot_busy (way_after n bs tail) ≡ true
 way_busy zero bs tail good h = h
-way_busy (suc n) bs tail good h = way_busy n (kept_by_one bs tail) (way_by_one bs tail) (all_kept is_good 1 bs tail good) (one_busy bs tail good h)
+way_busy (suc n) bs tail good h =
+    way_busy n (kept_by_one bs tail) (way_by_one bs tail) (all_kept is_good 1 bs tail good) (one_busy bs tail good h)
 
 -- where the last does not go, none goes
-none_goes : (n : ℕ) (b : Slots) (bs tail : List Slots) → goes_down (b ∷ bs) tail ≡ false → (kept_after n (b ∷ bs) tail ≡ b ∷ bs) × (way_after n (b ∷ bs) tail ≡ tail)
+none_goes : (n : ℕ) (b : Slots) (bs tail : List Slots) → goes_down (b ∷ bs) tail ≡ false → (kept_after n (b ∷ bs) tail
+    ≡ b ∷ bs) × (way_after n (b ∷ bs) tail ≡ tail)
 none_goes zero b bs tail up = (refl, refl)
 none_goes (suc n) b bs tail up =
     let front = ap (λ down. if down then but_last b bs else b ∷ bs) up in
@@ -334,12 +385,15 @@ none_before zero tail = refl
 none_before (suc n) tail = none_before n tail
 
 -- what cannot move is late, or holds a special register's write
-stays_put : (b : Slots) → can_move b ≡ false → is_flow b.first.op ≡ false → (z : Slots) → z ≡ (if is_late b.first.op then idle else b) → (is_idle z || holds_special z) ≡ true
+stays_put : (b : Slots) → can_move b ≡ false → is_flow b.first.op ≡ false → (z : Slots) → z
+    ≡ (if is_late b.first.op then idle else b) → (is_idle z || holds_special z) ≡ true
 stays_put b put calm z is =
     ap (λ x. is_idle x || holds_special x) is
-    ∙ elim (is_late b.first.op) as (λ late. (not late && (not (is_flow b.first.op) && not (holds_special b))) ≡ false → (is_idle (if late then idle else b) || holds_special (if late then idle else b)) ≡ true) [
+    ∙ elim (is_late b.first.op) as (λ late. (not late && (not (is_flow b.first.op) && not (holds_special b))) ≡ false
+    → (is_idle (if late then idle else b) || holds_special (if late then idle else b)) ≡ true) [
       | true ↦ λ h. refl
-      | false ↦ λ h. or_true (is_idle b) (holds_special b) (not_back (holds_special b) (sym (ap (λ flow. not flow && not (holds_special b)) calm) ∙ h))
+      | false ↦ λ h. or_true (is_idle b) (holds_special b)
+          (not_back (holds_special b) (sym (ap (λ flow. not flow && not (holds_special b)) calm) ∙ h))
     ] put
   where
     not_back : (x : Bool) → not x ≡ false → x ≡ true
@@ -350,33 +404,44 @@ calm_last : (b : Slots) (bs : List Slots) → are_calm (b ∷ bs) ≡ true → i
 calm_last b [] h = not-true (is_flow b.first.op) (and_parts (not (is_flow b.first.op)) true h).0
 calm_last b (c ∷ cs) h = calm_last c cs (and_parts (not (is_flow b.first.op)) (are_calm (c ∷ cs)) h).1
 
-way_used : (n : ℕ) (bs tail : List Slots) → are_calm bs ≡ true → list_all is_good bs ≡ true → ((b : Slots) → has_room b tail ≡ true) → is_used (spaced (kept_after (suc n) bs tail)) (spaced (way_after (suc n) bs tail)) ≡ true
+way_used : (n : ℕ) (bs tail : List Slots) → are_calm bs ≡ true → list_all is_good bs ≡ true
+    → ((b : Slots) → has_room b tail ≡ true) → is_used (spaced (kept_after (suc n) bs tail)) (spaced
+    (way_after (suc n) bs tail)) ≡ true
 way_used n [] tail calm good room = ap (λ xs. is_used (spaced xs) (spaced (way_after n [] tail))) (none_before n tail)
 way_used n (b ∷ bs) tail calm good room =
     let last = last_or b bs in
     elim (goes_down (b ∷ bs) tail) as (λ down. goes_down (b ∷ bs) tail ≡ down
-    → is_used (spaced (kept_after n (if down then but_last b bs else b ∷ bs) (if down then filled last tail else tail))) (spaced (way_after n (if down then but_last b bs else b ∷ bs) (if down then filled last tail else tail))) ≡ true) [
+    → is_used (spaced (kept_after n (if down then but_last b bs else b ∷ bs) (if down then filled last tail else tail)))
+    (spaced (way_after n (if down then but_last b bs else b ∷ bs) (if down then filled last tail else tail)))
+    ≡ true) [
       | true ↦ λ is.
-          used_by_slot (spaced (kept_after n (but_last b bs) (filled last tail))) (spaced (way_after n (but_last b bs) (filled last tail)))
-          (slot_spaced (way_after n (but_last b bs) (filled last tail)) (way_busy n (but_last b bs) (filled last tail) (all_but_last is_good b bs good).0 (filled_busy last tail (room last) (last_good b bs good))))
+          used_by_slot (spaced (kept_after n (but_last b bs) (filled last tail)))
+          (spaced (way_after n (but_last b bs) (filled last tail)))
+          (slot_spaced (way_after n (but_last b bs) (filled last tail)) (way_busy n (but_last b bs) (filled last tail)
+          (all_but_last is_good b bs good).0 (filled_busy last tail (room last) (last_good b bs good))))
       | false ↦ λ is.
           let same = none_goes n b bs tail is in
           (λ k. is_used (spaced (same.0 k)) (spaced (same.1 k)))
           ∙ used_by_last idle (spaced (b ∷ bs)) (spaced tail)
-          (stays_put last (sym (and-true (can_move last)) ∙ ap (λ r. can_move last && r) (sym (room last)) ∙ is) (calm_last b bs calm) (last_or idle (spaced (b ∷ bs))) (last_spaced idle b bs))
+          (stays_put last (sym (and-true (can_move last)) ∙ ap (λ r. can_move last && r) (sym (room last)) ∙ is)
+          (calm_last b bs calm) (last_or idle (spaced (b ∷ bs))) (last_spaced idle b bs))
     ] refl
 
 -- ---- a tail whose delay slots do nothing
 
 idle_filled : (b : Slots) → is_idle b ≡ true → is_filled b ≡ true
-idle_filled b h = alone_filled b (and_parts (is_idle_op b.first.op) (is_none b.second) (and_parts (is_always b.first.guard) (is_idle_op b.first.op && is_none b.second) h).1).1
+idle_filled b h = alone_filled b (and_parts (is_idle_op b.first.op) (is_none b.second)
+    (and_parts (is_always b.first.guard) (is_idle_op b.first.op && is_none b.second) h).1).1
 
--- what is said of it once its flow stands alone: no second slot does nothing, and it has room for what spares the flow's guard
+-- what is said of it once its flow stands alone: no second slot does nothing, and it has room for what spares the
+-- flow's guard
 record FlowAlone (flow : Slots) (tail : List Slots) : Type 0 where
   pub filled : list_all is_filled tail ≡ true
   pub room : (b : Slots) → spares_guard b flow.first.guard ≡ true → has_room b tail ≡ true
 
-flow_alone : (flow slot other : Slots) (slots : List Slots) → is_flow flow.first.op ≡ true → is_legal flow.first flow.second ≡ true → list_all is_idle (slot ∷ other ∷ slots) ≡ true → FlowAlone flow (freed (flow ∷ slot ∷ other ∷ slots))
+flow_alone : (flow slot other : Slots) (slots : List Slots) → is_flow flow.first.op ≡ true
+    → is_legal flow.first flow.second ≡ true → list_all is_idle (slot ∷ other ∷ slots) ≡ true
+    → FlowAlone flow (freed (flow ∷ slot ∷ other ∷ slots))
 flow_alone flow slot other slots flows legal idles = so flow.second refl legal
   where
     last : Slots
@@ -385,29 +450,42 @@ flow_alone flow slot other slots flows legal idles = so flow.second refl legal
     parts : (list_all is_idle (but_last slot (other ∷ slots)) ≡ true) × (is_idle last ≡ true)
     parts = all_but_last is_idle slot (other ∷ slots) idles
 
-    lets : (b t : Slots) → t.first ≡ flow.first → is_none t.second ≡ true → spares_guard b flow.first.guard ≡ true → lets_pass t b ≡ true
+    lets : (b t : Slots) → t.first ≡ flow.first → is_none t.second ≡ true → spares_guard b flow.first.guard ≡ true
+        → lets_pass t b ≡ true
     lets b t same alone spares =
-        and_from (is_flow t.first.op) (is_none t.second && spares_guard b t.first.guard) (ap (λ i. is_flow i.op) same ∙ flows)
-        (and_from (is_none t.second) (spares_guard b t.first.guard) alone (ap (λ i. spares_guard b i.guard) same ∙ spares))
+        and_from (is_flow t.first.op) (is_none t.second && spares_guard b t.first.guard)
+        (ap (λ i. is_flow i.op) same ∙ flows)
+        (and_from (is_none t.second) (spares_guard b t.first.guard) alone
+        (ap (λ i. spares_guard b i.guard) same ∙ spares))
 
     so : (o : Option Instr) → flow.second ≡ o → is_legal flow.first o ≡ true
-        → FlowAlone flow (elim o as (λ _. List Slots) [ None ↦ flow ∷ slot ∷ other ∷ slots | Some i ↦ if can_leave flow i last then lone flow.first ∷ lone i ∷ but_last slot (other ∷ slots) else flow ∷ slot ∷ other ∷ slots ])
+        → FlowAlone flow (elim o as (λ _. List Slots) [
+          | None ↦ flow ∷ slot ∷ other
+              ∷ slots
+          | Some i ↦ if can_leave flow i last then lone flow.first ∷ lone i
+              ∷ but_last slot (other ∷ slots) else flow ∷ slot ∷ other ∷ slots
+        ])
     so None is h =
         let alone = ap is_none is in
         record {
-          filled = and_from (is_filled flow) (list_all is_filled (slot ∷ other ∷ slots)) (alone_filled flow alone) (all_weaker is_idle is_filled idle_filled (slot ∷ other ∷ slots) idles);
+          filled = and_from (is_filled flow) (list_all is_filled (slot ∷ other ∷ slots)) (alone_filled flow alone)
+              (all_weaker is_idle is_filled idle_filled (slot ∷ other ∷ slots) idles);
           room = λ b spares. and_from (lets_pass flow b) (is_idle last) (lets b flow refl alone spares) parts.1;
         }
     so (Some i) is h =
         let kind = (and_parts (not (is_long flow.first.op)) (is_second_kind i.op) h).1 in
-        let can = and_from (is_flow flow.first.op) (is_second_kind i.op && is_idle last) flows (and_from (is_second_kind i.op) (is_idle last) kind parts.1) in
-        subst (λ out. FlowAlone flow (if out then lone flow.first ∷ lone i ∷ but_last slot (other ∷ slots) else flow ∷ slot ∷ other ∷ slots)) (sym can) (record {
+        let can = and_from (is_flow flow.first.op) (is_second_kind i.op && is_idle last) flows
+        (and_from (is_second_kind i.op) (is_idle last) kind parts.1) in
+        subst (λ out. FlowAlone flow (if out then lone flow.first ∷ lone i ∷ but_last slot (other ∷ slots) else flow
+        ∷ slot ∷ other ∷ slots)) (sym can) (record {
           filled = all_weaker is_idle is_filled idle_filled (but_last slot (other ∷ slots)) parts.0;
-          room = λ b spares. and_from (lets_pass (lone flow.first) b) (is_idle (last_or slot (but_last other slots))) (lets b (lone flow.first) refl refl spares) (all_but_last is_idle slot (but_last other slots) parts.0).1;
+          room = λ b spares. and_from (lets_pass (lone flow.first) b) (is_idle (last_or slot (but_last other slots)))
+              (lets b (lone flow.first) refl refl spares) (all_but_last is_idle slot (but_last other slots) parts.0).1;
         })
 
 -- of the tail of a call or a return
-way_alone : (is_it : Op → Bool) → ((op : Op) → is_it op ≡ true → is_flow op ≡ true) → (tail : List Slots) → is_way is_it tail ≡ true → way_idles tail ≡ true → has_legal_flow tail ≡ true
+way_alone : (is_it : Op → Bool) → ((op : Op) → is_it op ≡ true → is_flow op ≡ true) → (tail : List Slots)
+    → is_way is_it tail ≡ true → way_idles tail ≡ true → has_legal_flow tail ≡ true
     → (list_all is_filled (freed tail) ≡ true) × ((b : Slots) → has_room b (freed tail) ≡ true)
 way_alone is_it flows [] h idles legal = absurd (true≢false (sym h))
 way_alone is_it flows (t ∷ slots) h idles legal =
@@ -415,7 +493,8 @@ way_alone is_it flows (t ∷ slots) h idles legal =
     let two = and_parts (is_always t.first.guard) (are_delay_slots 3 slots) one.1 in
     so slots idles two.1 (flows t.first.op one.0) two.0
   where
-    so : (slots : List Slots) → list_all is_idle slots ≡ true → are_delay_slots 3 slots ≡ true → is_flow t.first.op ≡ true → is_always t.first.guard ≡ true
+    so : (slots : List Slots) → list_all is_idle slots ≡ true → are_delay_slots 3 slots ≡ true → is_flow t.first.op
+        ≡ true → is_always t.first.guard ≡ true
         → (list_all is_filled (freed (t ∷ slots)) ≡ true) × ((b : Slots) → has_room b (freed (t ∷ slots)) ≡ true)
     so [] idles three flow always = absurd (true≢false (sym three))
     so (slot ∷ []) idles three flow always = absurd (true≢false (sym three))
@@ -424,17 +503,24 @@ way_alone is_it flows (t ∷ slots) h idles legal =
         (alone.filled, λ b. alone.room b (or_first (is_always t.first.guard) _ always))
 
 -- of a branch
-iteration_alone : (tail : List Slots) → is_iteration tail ≡ true → iteration_idles tail ≡ true → has_legal_flow (from_branch tail) ≡ true → list_all is_filled (freed (from_branch tail)) ≡ true
+iteration_alone : (tail : List Slots) → is_iteration tail ≡ true → iteration_idles tail ≡ true
+    → has_legal_flow (from_branch tail) ≡ true → list_all is_filled (freed (from_branch tail)) ≡ true
 iteration_alone [] h idles legal = refl
 iteration_alone (t ∷ slots) h idles legal =
-    elim (is_branch t.first.op) as (λ back. is_branch t.first.op ≡ back → (if back then are_delay_slots 2 slots else (not (is_flow t.first.op) && is_iteration slots)) ≡ true
-    → (if back then list_all is_idle slots else iteration_idles slots) ≡ true → has_legal_flow (if back then t ∷ slots else from_branch slots) ≡ true
+    elim (is_branch t.first.op) as (λ back. is_branch t.first.op ≡ back → (if back then are_delay_slots 2 slots else
+    (not (is_flow t.first.op) && is_iteration slots)) ≡ true
+    → (if back then list_all is_idle slots else iteration_idles slots) ≡ true
+    → has_legal_flow (if back then t ∷ slots else from_branch slots) ≡ true
     → list_all is_filled (freed (if back then t ∷ slots else from_branch slots)) ≡ true) [
-      | true ↦ λ is two idles legal. so slots idles two (ap (λ back. if back then true else (if is_call t.first.op then true else (if is_return t.first.op then true else is_fill t.first.op))) is) legal
-      | false ↦ λ is iteration idles legal. iteration_alone slots (and_parts (not (is_flow t.first.op)) (is_iteration slots) iteration).1 idles legal
+      | true ↦ λ is two idles legal. so slots idles two
+          (ap (λ back. if back then true else (if is_call t.first.op then true else
+          (if is_return t.first.op then true else is_fill t.first.op))) is) legal
+      | false ↦ λ is iteration idles legal. iteration_alone slots (and_parts (not (is_flow t.first.op))
+          (is_iteration slots) iteration).1 idles legal
     ] refl h idles legal
   where
-    so : (slots : List Slots) → list_all is_idle slots ≡ true → are_delay_slots 2 slots ≡ true → is_flow t.first.op ≡ true → is_legal t.first t.second ≡ true → list_all is_filled (freed (t ∷ slots)) ≡ true
+    so : (slots : List Slots) → list_all is_idle slots ≡ true → are_delay_slots 2 slots ≡ true → is_flow t.first.op
+        ≡ true → is_legal t.first t.second ≡ true → list_all is_filled (freed (t ∷ slots)) ≡ true
     so [] idles two flow legal = absurd (true≢false (sym two))
     so (slot ∷ []) idles two flow legal = absurd (true≢false (sym two))
     so (slot ∷ other ∷ more) idles two flow legal = (flow_alone t slot other more flow legal idles).filled
@@ -450,22 +536,29 @@ return_flows _ h = absurd (true≢false (sym h))
 -- ---- parts
 
 -- after what is no straight code
-then_packed : (p : PlainPart) (rest : PlainParts) → part_packed p ≡ true → can_follow p rest ≡ true → parts_packed rest ≡ true → parts_packed (part p rest) ≡ true
-then_packed p rest hp follows h = and_from (part_packed p) (can_follow p rest && parts_packed rest) hp (and_from (can_follow p rest) (parts_packed rest) follows h)
+then_packed : (p : PlainPart) (rest : PlainParts) → part_packed p ≡ true → can_follow p rest ≡ true → parts_packed rest
+    ≡ true → parts_packed (part p rest) ≡ true
+then_packed p rest hp follows h = and_from (part_packed p) (can_follow p rest && parts_packed rest) hp
+    (and_from (can_follow p rest) (parts_packed rest) follows h)
 
-iteration_filled : (held tail : List Slots) → list_all is_filled (freed (from_branch tail)) ≡ true → list_all is_filled (spaced (iteration_packed held tail)) ≡ true
+iteration_filled : (held tail : List Slots) → list_all is_filled (freed (from_branch tail)) ≡ true
+    → list_all is_filled (spaced (iteration_packed held tail)) ≡ true
 iteration_filled held tail filled =
     let back = from_branch tail in
     let all = arranged held (before_branch tail) back in
     let p = packed all in
     let front = all_weaker is_good is_filled good_fills p (good_packed all) in
     filled_spaced (iteration_packed held tail)
-    (all_append is_filled (kept p back) (way p back) (all_kept is_filled MOST_SLOTS p (freed back) front) (all_way is_filled MOST_SLOTS p (freed back) front filled))
+    (all_append is_filled (kept p back) (way p back) (all_kept is_filled MOST_SLOTS p (freed back) front)
+    (all_way is_filled MOST_SLOTS p (freed back) front filled))
 
-way_filled : (bs tail : List Slots) → list_all is_good bs ≡ true → list_all is_filled (freed tail) ≡ true → list_all is_filled (spaced (way bs tail)) ≡ true
-way_filled bs tail good filled = filled_spaced (way bs tail) (all_way is_filled MOST_SLOTS bs (freed tail) (all_weaker is_good is_filled good_fills bs good) filled)
+way_filled : (bs tail : List Slots) → list_all is_good bs ≡ true → list_all is_filled (freed tail) ≡ true
+    → list_all is_filled (spaced (way bs tail)) ≡ true
+way_filled bs tail good filled = filled_spaced (way bs tail) (all_way is_filled MOST_SLOTS bs (freed tail)
+    (all_weaker is_good is_filled good_fills bs good) filled)
 
-pub merged_packed : (held : List Slots) (ps : PlainParts) → are_calm held ≡ true → parts_shaped ps ≡ true → parts_idle ps ≡ true → parts_legal ps ≡ true → parts_packed (parts_placed (parts_merged held ps)) ≡ true
+pub merged_packed : (held : List Slots) (ps : PlainParts) → are_calm held ≡ true → parts_shaped ps ≡ true
+    → parts_idle ps ≡ true → parts_legal ps ≡ true → parts_packed (parts_placed (parts_merged held ps)) ≡ true
 merged_packed held no_part calm shaped idles legal = refl
 merged_packed held (part (straight bs) rest) calm shaped idles legal =
     let s = and_parts (are_calm bs) (parts_shaped rest) shaped in
@@ -478,10 +571,14 @@ merged_packed held (part (repeats count body tail) rest) calm shaped idles legal
     let l = and_parts (parts_legal body && has_legal_flow (from_branch tail)) (parts_legal rest) legal in
     let own_l = and_parts (parts_legal body) (has_legal_flow (from_branch tail)) l.0 in
     let left = left_over [] body in
-    straights_packed (packed held) (part (repeats count (parts_merged [] body) (iteration_packed left tail)) (parts_merged [] rest)) (good_packed held) (packed_pairless held) refl
-    (then_packed (repeats count (parts_placed (parts_merged [] body)) (spaced (iteration_packed left tail))) (parts_placed (parts_merged [] rest))
-    (and_from (parts_packed (parts_placed (parts_merged [] body))) (list_all is_filled (spaced (iteration_packed left tail)))
-    (merged_packed [] body refl own_s.0 own_i.0 own_l.0) (iteration_filled left tail (iteration_alone tail own_s.1 own_i.1 own_l.1)))
+    straights_packed (packed held) (part (repeats count (parts_merged [] body) (iteration_packed left tail))
+    (parts_merged [] rest)) (good_packed held) (packed_pairless held) refl
+    (then_packed (repeats count (parts_placed (parts_merged [] body)) (spaced (iteration_packed left tail)))
+    (parts_placed (parts_merged [] rest))
+    (and_from (parts_packed (parts_placed (parts_merged [] body)))
+    (list_all is_filled (spaced (iteration_packed left tail)))
+    (merged_packed [] body refl own_s.0 own_i.0 own_l.0)
+    (iteration_filled left tail (iteration_alone tail own_s.1 own_i.1 own_l.1)))
     refl (merged_packed [] rest refl s.1 i.1 l.1))
 merged_packed held (part (calls_to k tail) rest) calm shaped idles legal =
     let s = and_parts (is_way is_call tail) (parts_shaped rest) shaped in
@@ -490,9 +587,12 @@ merged_packed held (part (calls_to k tail) rest) calm shaped idles legal =
     let alone = way_alone is_call call_flows tail s.0 i.0 l.0 in
     let p = packed held in
     let good = good_packed held in
-    straights_packed (kept p tail) (part (calls_to k (way p tail)) (parts_merged [] rest)) (all_kept is_good MOST_SLOTS p (freed tail) good) (kept_pairless MOST_SLOTS p (freed tail) (packed_pairless held))
+    straights_packed (kept p tail) (part (calls_to k (way p tail)) (parts_merged [] rest))
+    (all_kept is_good MOST_SLOTS p (freed tail) good) (kept_pairless MOST_SLOTS p (freed tail)
+    (packed_pairless held))
     (way_used 2 p (freed tail) (calm_packed held calm) good alone.1)
-    (then_packed (calls_to k (spaced (way p tail))) (parts_placed (parts_merged [] rest)) (way_filled p tail good alone.0) refl (merged_packed [] rest refl s.1 i.1 l.1))
+    (then_packed (calls_to k (spaced (way p tail))) (parts_placed (parts_merged [] rest))
+    (way_filled p tail good alone.0) refl (merged_packed [] rest refl s.1 i.1 l.1))
 merged_packed held (part (leaves tail) rest) calm shaped idles legal =
     let s = and_parts (is_way is_return tail) (parts_shaped rest) shaped in
     let i = and_parts (way_idles tail) (parts_idle rest) idles in
@@ -500,6 +600,8 @@ merged_packed held (part (leaves tail) rest) calm shaped idles legal =
     let alone = way_alone is_return return_flows tail s.0 i.0 l.0 in
     let p = packed held in
     let good = good_packed held in
-    straights_packed (kept p tail) (part (leaves (way p tail)) (parts_merged [] rest)) (all_kept is_good MOST_SLOTS p (freed tail) good) (kept_pairless MOST_SLOTS p (freed tail) (packed_pairless held))
+    straights_packed (kept p tail) (part (leaves (way p tail)) (parts_merged [] rest)) (all_kept is_good MOST_SLOTS p
+    (freed tail) good) (kept_pairless MOST_SLOTS p (freed tail) (packed_pairless held))
     (way_used 2 p (freed tail) (calm_packed held calm) good alone.1)
-    (then_packed (leaves (spaced (way p tail))) (parts_placed (parts_merged [] rest)) (way_filled p tail good alone.0) refl (merged_packed [] rest refl s.1 i.1 l.1))
+    (then_packed (leaves (spaced (way p tail))) (parts_placed (parts_merged [] rest)) (way_filled p tail good alone.0)
+    refl (merged_packed [] rest refl s.1 i.1 l.1))

@@ -28,8 +28,10 @@ use Rattle.bundle_sched.proofs.SpacedRuns.{placed_at}
 pub functions_stay : (s : PlainShape) → length (scheduled s).functions ≡ length s.functions
 functions_stay s = length-map (merged s).functions parts_placed ∙ length-map s.functions function_merged
 
-pub scheduled_at : (s t : PlainShape) → t ≡ scheduled s → (k : ℕ) → slice_index_or t.functions k no_part ≡ parts_placed (function_merged (slice_index_or s.functions k no_part))
-scheduled_at s t told k = ap (λ x. slice_index_or x.functions k no_part) told ∙ placed_at (merged s).functions k ∙ ap parts_placed (merged_at s.functions k)
+pub scheduled_at : (s t : PlainShape) → t ≡ scheduled s → (k : ℕ) → slice_index_or t.functions k no_part
+    ≡ parts_placed (function_merged (slice_index_or s.functions k no_part))
+scheduled_at s t told k = ap (λ x. slice_index_or x.functions k no_part) told ∙ placed_at (merged s).functions k
+    ∙ ap parts_placed (merged_at s.functions k)
 
 second_steady : (i : Instr) → is_second_kind i.op ≡ true → is_steady (lone i) ≡ true
 second_steady i kind = so i.op kind
@@ -40,12 +42,16 @@ second_steady i kind = so i.op kind
     so (Stack func count) h = absurd (true≢false (sym h))
     so _ h = refl
 
-pub steady_as : (s t : PlainShape) → t ≡ scheduled s → (k : ℕ) → parts_all is_steady (slice_index_or s.functions k no_part) ≡ true → parts_all is_steady (slice_index_or t.functions k no_part) ≡ true
+pub steady_as : (s t : PlainShape) → t ≡ scheduled s → (k : ℕ)
+    → parts_all is_steady (slice_index_or s.functions k no_part) ≡ true
+    → parts_all is_steady (slice_index_or t.functions k no_part) ≡ true
 steady_as s t told k h =
     let f = slice_index_or s.functions k no_part in
-    ap (parts_all is_steady) (scheduled_at s t told k) ∙ parts_all_placed is_steady refl (function_merged f) (all_function is_steady (λ b hb. hb) second_steady (λ a b busy can ha hb. ha) f h)
+    ap (parts_all is_steady) (scheduled_at s t told k) ∙ parts_all_placed is_steady refl (function_merged f)
+    (all_function is_steady (λ b hb. hb) second_steady (λ a b busy can ha hb. ha) f h)
 
-pub room_as : (s t : PlainShape) → t ≡ scheduled s → (k : ℕ) → parts_words (slice_index_or t.functions k no_part) ≤ parts_room (slice_index_or s.functions k no_part)
+pub room_as : (s t : PlainShape) → t ≡ scheduled s → (k : ℕ) → parts_words (slice_index_or t.functions k no_part)
+    ≤ parts_room (slice_index_or s.functions k no_part)
 room_as s t told k =
     let f = slice_index_or s.functions k no_part in
     omega (arith, ap parts_words (scheduled_at s t told k), parts_placed_words (function_merged f), function_room f)
@@ -56,11 +62,14 @@ room_as s t told k =
 -- that can be one where it holds of that one, and of a bundle where it holds of each of its instructions alone
 pub none_lost : (holds : Slots → Bool) (dropped : (b : Slots) → is_idle b ≡ true → holds b ≡ true)
     (paired : (a b : Slots) → can_join a b ≡ true → holds (pair a b) ≡ true → (holds a ≡ true) × (holds b ≡ true))
-    (apart : (b : Slots) (i : Instr) → b.second ≡ Some i → holds (lone b.first) ≡ true → holds (lone i) ≡ true → holds b ≡ true) (s : PlainShape) (k : ℕ)
-    → parts_all holds (slice_index_or (scheduled s).functions k no_part) ≡ true → parts_all holds (slice_index_or s.functions k no_part) ≡ true
+    (apart : (b : Slots) (i : Instr) → b.second ≡ Some i → holds (lone b.first) ≡ true → holds (lone i) ≡ true → holds b
+    ≡ true) (s : PlainShape) (k : ℕ)
+    → parts_all holds (slice_index_or (scheduled s).functions k no_part) ≡ true
+    → parts_all holds (slice_index_or s.functions k no_part) ≡ true
 none_lost holds dropped paired apart s k h =
     let f = slice_index_or s.functions k no_part in
-    function_had holds dropped apart paired f (parts_placed_all holds (function_merged f) (sym (ap (parts_all holds) (scheduled_at s (scheduled s) refl k)) ∙ h))
+    function_had holds dropped apart paired f (parts_placed_all holds (function_merged f)
+    (sym (ap (parts_all holds) (scheduled_at s (scheduled s) refl k)) ∙ h))
 
 -- so of constants that are words
 second_word : (op : Op) → is_second_kind op ≡ true → is_word_op op ≡ true
@@ -70,8 +79,10 @@ second_word _ kind = refl
 pub word_dropped : (b : Slots) → is_idle b ≡ true → has_word b ≡ true
 word_dropped b is = ap has_word (idle_is b is)
 
-pub word_paired : (a b : Slots) → can_join a b ≡ true → has_word (pair a b) ≡ true → (has_word a ≡ true) × (has_word b ≡ true)
+pub word_paired : (a b : Slots) → can_join a b ≡ true → has_word (pair a b) ≡ true → (has_word a ≡ true)
+    × (has_word b ≡ true)
 word_paired a b can h = (h, second_word b.first.op (pairs a b can).kind)
 
-pub word_apart : (b : Slots) (i : Instr) → b.second ≡ Some i → has_word (lone b.first) ≡ true → has_word (lone i) ≡ true → has_word b ≡ true
+pub word_apart : (b : Slots) (i : Instr) → b.second ≡ Some i → has_word (lone b.first) ≡ true → has_word (lone i) ≡ true
+    → has_word b ≡ true
 word_apart b i is first second = first

@@ -1,6 +1,6 @@
 pub mod Alike
 pub mod AllPacked
-pub mod BehindFlow
+pub mod AfterFlow
 pub mod Beside
 pub mod Commute
 pub mod EachStep

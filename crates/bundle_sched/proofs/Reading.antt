@@ -30,12 +30,14 @@ each_true [] = refl
 each_true (x ∷ xs) = each_true xs
 
 -- registers of which those are the same that are left, and those predicates
-module _ (regs next : Registers) (left leaves : ℕ → Bool) (word : (r : ℕ) → left r ≡ true → word_in next r ≡ word_in regs r)
+module _ (regs next : Registers) (left leaves : ℕ → Bool) (word : (r : ℕ) → left r ≡ true → word_in next r
+    ≡ word_in regs r)
     (pred : (p : ℕ) → leaves p ≡ true → pred_in next p ≡ pred_in regs p) where
   one_word : {A : Type 0} (f : ℕ → A) (r : ℕ) → list_all left (r ∷ []) ≡ true → f (word_in next r) ≡ f (word_in regs r)
   one_word f r free = ap f (word r (and_parts (left r) true free).0)
 
-  two_words : {A : Type 0} (f : ℕ → ℕ → A) (r s : ℕ) → list_all left (r ∷ s ∷ []) ≡ true → f (word_in next r) (word_in next s) ≡ f (word_in regs r) (word_in regs s)
+  two_words : {A : Type 0} (f : ℕ → ℕ → A) (r s : ℕ) → list_all left (r ∷ s ∷ []) ≡ true
+      → f (word_in next r) (word_in next s) ≡ f (word_in regs r) (word_in regs s)
   two_words f r s free =
       let both = and_parts (left r) (left s && true) free in
       let p = word r both.0 in
@@ -46,18 +48,26 @@ module _ (regs next : Registers) (left leaves : ℕ → Bool) (word : (r : ℕ) 
   guard_same g h = ap (λ b. if g.negated then not b else b) (pred g.pred h)
 
   -- where the guard's predicate is left too
-  pub slot_same : {A : Type 0} (f : Registers → Op → A) (none : A) (i : Instr) → list_all leaves (tests i) ≡ true → f next i.op ≡ f regs i.op
+  pub slot_same : {A : Type 0} (f : Registers → Op → A) (none : A) (i : Instr) → list_all leaves (tests i) ≡ true
+      → f next i.op ≡ f regs i.op
       → (if holds next i.guard then f next i.op else none) ≡ (if holds regs i.guard then f regs i.op else none)
-  slot_same f none i tested same = let on = guard_same i.guard (and_parts (leaves i.guard.pred) (list_all leaves (op_tests i.op)) tested).0 in λ k. if on k then same k else none
+  slot_same f none i tested same = let on = guard_same i.guard (and_parts (leaves i.guard.pred)
+      (list_all leaves (op_tests i.op)) tested).0 in λ k. if on k then same k else none
 
   -- of a plain one, wherever the stack is
-  plain_write : (st ss st' ss' : ℕ) (op : Op) → is_plain_op op ≡ true → list_all left (reads op) ≡ true → list_all leaves (op_tests op) ≡ true
+  plain_write : (st ss st' ss' : ℕ) (op : Op) → is_plain_op op ≡ true → list_all left (reads op) ≡ true
+      → list_all leaves (op_tests op) ≡ true
       → write_of st' ss' next op ≡ write_of st ss regs op
-  plain_write st ss st' ss' (AluImm func rd ra imm) kind free tested = one_word (λ x. write.Register rd (alu_value (alu_of func) x imm)) ra free
-  plain_write st ss st' ss' (AluReg func rd ra rb) kind free tested = two_words (λ x y. write.Register rd (alu_value func x y)) ra rb free
-  plain_write st ss st' ss' (AluLong func rd ra constant) kind free tested = one_word (λ x. write.Register rd (alu_value func x constant)) ra free
-  plain_write st ss st' ss' (Cmp func pd ra rb) kind free tested = two_words (λ x y. write.Predicate pd (compare_value func x y)) ra rb free
-  plain_write st ss st' ss' (CmpImm func pd ra imm) kind free tested = one_word (λ x. write.Predicate pd (compare_value func x imm)) ra free
+  plain_write st ss st' ss' (AluImm func rd ra imm) kind free tested =
+      one_word (λ x. write.Register rd (alu_value (alu_of func) x imm)) ra free
+  plain_write st ss st' ss' (AluReg func rd ra rb) kind free tested =
+      two_words (λ x y. write.Register rd (alu_value func x y)) ra rb free
+  plain_write st ss st' ss' (AluLong func rd ra constant) kind free tested =
+      one_word (λ x. write.Register rd (alu_value func x constant)) ra free
+  plain_write st ss st' ss' (Cmp func pd ra rb) kind free tested =
+      two_words (λ x y. write.Predicate pd (compare_value func x y)) ra rb free
+  plain_write st ss st' ss' (CmpImm func pd ra imm) kind free tested =
+      one_word (λ x. write.Predicate pd (compare_value func x imm)) ra free
   plain_write st ss st' ss' (Comb func pd a b) kind free tested =
       let both = and_parts (leaves a.pred) (leaves b.pred && true) tested in
       let p = guard_same a both.0 in
@@ -65,7 +75,8 @@ module _ (regs next : Registers) (left leaves : ℕ → Bool) (word : (r : ℕ) 
       λ k. write.Predicate pd (pred_value func (p k) (q k))
   plain_write st ss st' ss' _ kind free tested = absurd (true≢false (sym kind))
 
-  pub plain_slot : (st ss st' ss' : ℕ) (i : Instr) → is_plain_op i.op ≡ true → list_all left (reads i.op) ≡ true → list_all leaves (tests i) ≡ true
+  pub plain_slot : (st ss st' ss' : ℕ) (i : Instr) → is_plain_op i.op ≡ true → list_all left (reads i.op) ≡ true
+      → list_all leaves (tests i) ≡ true
       → slot_write st' ss' next i ≡ slot_write st ss regs i
   plain_slot st ss st' ss' i kind free tested =
       let both = and_parts (leaves i.guard.pred) (list_all leaves (op_tests i.op)) tested in
@@ -96,7 +107,8 @@ module _ (regs next : Registers) (left leaves : ℕ → Bool) (word : (r : ℕ) 
       λ k. b0 k + b1 k * 2 + b2 k * 4 + b3 k * 8 + b4 k * 16 + b5 k * 32 + b6 k * 64 + b7 k * 128
 
   -- where the special registers are the same, each reads the same
-  pub specials_same : next.sl ≡ regs.sl → next.sh ≡ regs.sh → next.srb ≡ regs.srb → next.sro ≡ regs.sro → (st ss : ℕ) (op : Op) → list_all leaves (op_tests op) ≡ true → SameSpecial st ss regs next op
+  pub specials_same : next.sl ≡ regs.sl → next.sh ≡ regs.sh → next.srb ≡ regs.srb → next.sro ≡ regs.sro
+      → (st ss : ℕ) (op : Op) → list_all leaves (op_tests op) ≡ true → SameSpecial st ss regs next op
   specials_same low high base offset st ss (FromSpecial rd special.S0) tested = number_same tested
   specials_same low high base offset st ss (FromSpecial rd special.Sl) tested = low
   specials_same low high base offset st ss (FromSpecial rd special.Sh) tested = high
@@ -107,12 +119,17 @@ module _ (regs next : Registers) (left leaves : ℕ → Bool) (word : (r : ℕ) 
   specials_same low high base offset st ss _ tested = tt
 
   -- of any
-  pub any_write : (st ss : ℕ) (op : Op) → list_all left (reads op) ≡ true → list_all leaves (op_tests op) ≡ true → SameSpecial st ss regs next op → write_of st ss next op ≡ write_of st ss regs op
-  any_write st ss (AluImm func rd ra imm) free tested same = plain_write st ss st ss (AluImm func rd ra imm) refl free tested
-  any_write st ss (AluReg func rd ra rb) free tested same = plain_write st ss st ss (AluReg func rd ra rb) refl free tested
-  any_write st ss (AluLong func rd ra constant) free tested same = plain_write st ss st ss (AluLong func rd ra constant) refl free tested
+  pub any_write : (st ss : ℕ) (op : Op) → list_all left (reads op) ≡ true → list_all leaves (op_tests op) ≡ true
+      → SameSpecial st ss regs next op → write_of st ss next op ≡ write_of st ss regs op
+  any_write st ss (AluImm func rd ra imm) free tested same =
+      plain_write st ss st ss (AluImm func rd ra imm) refl free tested
+  any_write st ss (AluReg func rd ra rb) free tested same =
+      plain_write st ss st ss (AluReg func rd ra rb) refl free tested
+  any_write st ss (AluLong func rd ra constant) free tested same =
+      plain_write st ss st ss (AluLong func rd ra constant) refl free tested
   any_write st ss (Cmp func pd ra rb) free tested same = plain_write st ss st ss (Cmp func pd ra rb) refl free tested
-  any_write st ss (CmpImm func pd ra imm) free tested same = plain_write st ss st ss (CmpImm func pd ra imm) refl free tested
+  any_write st ss (CmpImm func pd ra imm) free tested same =
+      plain_write st ss st ss (CmpImm func pd ra imm) refl free tested
   any_write st ss (Comb func pd a b) free tested same = plain_write st ss st ss (Comb func pd a b) refl free tested
   any_write st ss (ToSpecial to ra) free tested same = one_word (λ x. write.Special to x) ra free
   any_write st ss (FromSpecial rd from) free tested same = ap (write.Register rd) same
@@ -120,11 +137,15 @@ module _ (regs next : Registers) (left leaves : ℕ → Bool) (word : (r : ℕ) 
 
   pub any_begun : (op : Op) → list_all left (reads op) ≡ true → begun next op ≡ begun regs op
   any_begun (Mul true ra rb) free = two_words (λ x y. pending.Product (low_word (x * y)) (high_word (x * y))) ra rb free
-  any_begun (Mul false ra rb) free = two_words (λ x y. pending.Product (low_word (product x y)) (high_word (product x y))) ra rb free
+  any_begun (Mul false ra rb) free =
+      two_words (λ x y. pending.Product (low_word (product x y)) (high_word (product x y))) ra rb free
   any_begun _ free = refl
 
-  pub any_asked : next.srb ≡ regs.srb → next.sro ≡ regs.sro → (op : Op) → list_all left (reads op) ≡ true → asked next op ≡ asked regs op
-  any_asked base offset (Load space width rd ra imm) free = one_word (λ x. effect.Load space width rd (address_of x imm (width_bytes width))) ra free
-  any_asked base offset (Store space width ra rs imm) free = two_words (λ x y. effect.Store space width (address_of x imm (store_bytes width)) y) ra rs free
+  pub any_asked : next.srb ≡ regs.srb → next.sro ≡ regs.sro → (op : Op) → list_all left (reads op) ≡ true
+      → asked next op ≡ asked regs op
+  any_asked base offset (Load space width rd ra imm) free =
+      one_word (λ x. effect.Load space width rd (address_of x imm (width_bytes width))) ra free
+  any_asked base offset (Store space width ra rs imm) free =
+      two_words (λ x y. effect.Store space width (address_of x imm (store_bytes width)) y) ra rs free
   any_asked base offset Return free = λ k. effect.Flow (flow.Return (base k) (offset k))
   any_asked base offset _ free = refl

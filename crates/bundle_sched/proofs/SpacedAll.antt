@@ -13,34 +13,41 @@ use Rattle.bundle_sched.specs.Placed.{ignores_both, is_awaited, spaced, part_pla
 
 -- ---- what holds of a bundle that does nothing, and of each bundle, holds of each spaced one
 
-all_spaced : (holds : Slots → Bool) → holds idle ≡ true → (bs : List Slots) → list_all holds bs ≡ true → list_all holds (spaced bs) ≡ true
+all_spaced : (holds : Slots → Bool) → holds idle ≡ true → (bs : List Slots) → list_all holds bs ≡ true
+    → list_all holds (spaced bs) ≡ true
 all_spaced holds nothing [] h = refl
 all_spaced holds nothing (b ∷ bs) h =
     let both = and_parts (holds b) (list_all holds bs) h in
     let others = all_spaced holds nothing bs both.1 in
     elim (is_awaited b bs) as (λ late. list_all holds ((if late then b ∷ idle ∷ [] else b ∷ []) ++ spaced bs) ≡ true) [
-      | true ↦ and_from (holds b) (holds idle && list_all holds (spaced bs)) both.0 (and_from (holds idle) (list_all holds (spaced bs)) nothing others)
+      | true ↦ and_from (holds b) (holds idle && list_all holds (spaced bs)) both.0
+          (and_from (holds idle) (list_all holds (spaced bs)) nothing others)
       | false ↦ and_from (holds b) (list_all holds (spaced bs)) both.0 others
     ]
 
 mutual
-  part_all_placed : (holds : Slots → Bool) → holds idle ≡ true → (p : PlainPart) → part_all holds p ≡ true → part_all holds (part_placed p) ≡ true
+  part_all_placed : (holds : Slots → Bool) → holds idle ≡ true → (p : PlainPart) → part_all holds p ≡ true
+      → part_all holds (part_placed p) ≡ true
   part_all_placed holds nothing (straight bs) h = all_spaced holds nothing bs h
   part_all_placed holds nothing (repeats count body tail) h =
       let both = and_parts (parts_all holds body) (list_all holds tail) h in
-      and_from (parts_all holds (parts_placed body)) (list_all holds (spaced tail)) (parts_all_placed holds nothing body both.0) (all_spaced holds nothing tail both.1)
+      and_from (parts_all holds (parts_placed body)) (list_all holds (spaced tail))
+      (parts_all_placed holds nothing body both.0) (all_spaced holds nothing tail both.1)
   part_all_placed holds nothing (calls_to k tail) h = all_spaced holds nothing tail h
   part_all_placed holds nothing (leaves tail) h = all_spaced holds nothing tail h
 
-  pub parts_all_placed : (holds : Slots → Bool) → holds idle ≡ true → (ps : PlainParts) → parts_all holds ps ≡ true → parts_all holds (parts_placed ps) ≡ true
+  pub parts_all_placed : (holds : Slots → Bool) → holds idle ≡ true → (ps : PlainParts) → parts_all holds ps ≡ true
+      → parts_all holds (parts_placed ps) ≡ true
   parts_all_placed holds nothing no_part h = refl
   parts_all_placed holds nothing (part p rest) h =
       let both = and_parts (part_all holds p) (parts_all holds rest) h in
-      and_from (part_all holds (part_placed p)) (parts_all holds (parts_placed rest)) (part_all_placed holds nothing p both.0) (parts_all_placed holds nothing rest both.1)
+      and_from (part_all holds (part_placed p)) (parts_all holds (parts_placed rest))
+      (part_all_placed holds nothing p both.0) (parts_all_placed holds nothing rest both.1)
 
 -- ---- what holds of each spaced bundle holds of each bundle before
 
-one_spaced_all : (holds : Slots → Bool) (late : Bool) (b : Slots) (spaced_rest rest : List Slots) → (list_all holds spaced_rest ≡ true → list_all holds rest ≡ true)
+one_spaced_all : (holds : Slots → Bool) (late : Bool) (b : Slots) (spaced_rest rest : List Slots)
+    → (list_all holds spaced_rest ≡ true → list_all holds rest ≡ true)
     → list_all holds ((if late then b ∷ idle ∷ [] else b ∷ []) ++ spaced_rest) ≡ true → list_all holds (b ∷ rest) ≡ true
 one_spaced_all holds true b spaced_rest rest others h =
     let x = and_parts (holds b) (holds idle && list_all holds spaced_rest) h in
@@ -54,19 +61,23 @@ spaced_all holds [] h = refl
 spaced_all holds (b ∷ bs) h = one_spaced_all holds (is_awaited b bs) b (spaced bs) bs (λ x. spaced_all holds bs x) h
 
 mutual
-  part_placed_all : (holds : Slots → Bool) → (p : PlainPart) → part_all holds (part_placed p) ≡ true → part_all holds p ≡ true
+  part_placed_all : (holds : Slots → Bool) → (p : PlainPart) → part_all holds (part_placed p) ≡ true
+      → part_all holds p ≡ true
   part_placed_all holds (straight bs) h = spaced_all holds bs h
   part_placed_all holds (repeats count body tail) h =
       let both = and_parts (parts_all holds (parts_placed body)) (list_all holds (spaced tail)) h in
-      and_from (parts_all holds body) (list_all holds tail) (parts_placed_all holds body both.0) (spaced_all holds tail both.1)
+      and_from (parts_all holds body) (list_all holds tail) (parts_placed_all holds body both.0)
+      (spaced_all holds tail both.1)
   part_placed_all holds (calls_to k tail) h = spaced_all holds tail h
   part_placed_all holds (leaves tail) h = spaced_all holds tail h
 
-  pub parts_placed_all : (holds : Slots → Bool) → (ps : PlainParts) → parts_all holds (parts_placed ps) ≡ true → parts_all holds ps ≡ true
+  pub parts_placed_all : (holds : Slots → Bool) → (ps : PlainParts) → parts_all holds (parts_placed ps) ≡ true
+      → parts_all holds ps ≡ true
   parts_placed_all holds no_part h = refl
   parts_placed_all holds (part p rest) h =
       let both = and_parts (part_all holds (part_placed p)) (parts_all holds (parts_placed rest)) h in
-      and_from (part_all holds p) (parts_all holds rest) (part_placed_all holds p both.0) (parts_placed_all holds rest both.1)
+      and_from (part_all holds p) (parts_all holds rest) (part_placed_all holds p both.0)
+      (parts_placed_all holds rest both.1)
 
 -- ---- words
 
@@ -82,7 +93,8 @@ spaced_words : (bs : List Slots) → bundles_words (spaced bs) ≤ bundles_room 
 spaced_words [] = omega arith
 spaced_words (b ∷ bs) =
     let others = spaced_words bs in
-    elim (is_awaited b bs) as (λ awaited. is_awaited b bs ≡ awaited → bundles_words ((if awaited then b ∷ idle ∷ [] else b ∷ []) ++ spaced bs) ≤ bundles_room (b ∷ bs)) [
+    elim (is_awaited b bs) as (λ awaited. is_awaited b bs ≡ awaited
+    → bundles_words ((if awaited then b ∷ idle ∷ [] else b ∷ []) ++ spaced bs) ≤ bundles_room (b ∷ bs)) [
       | true ↦ λ is. omega (arith, others, late_room b (awaited_late b bs is))
       | false ↦ λ is. omega (arith, others)
     ] refl

@@ -35,4 +35,5 @@ second_false true y h = h
 second_false false y h = refl
 
 pub pair_idle : (a b : Slots) → is_idle (pair a b) ≡ false
-pair_idle a b = second_false (is_always a.first.guard) (is_idle_op a.first.op && false) (second_false (is_idle_op a.first.op) false refl)
+pair_idle a b = second_false (is_always a.first.guard) (is_idle_op a.first.op && false)
+    (second_false (is_idle_op a.first.op) false refl)

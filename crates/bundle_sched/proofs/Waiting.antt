@@ -102,8 +102,10 @@ module _ (regs : Registers) (fits : FitsRegisters regs) where
   pred_stays : (p : ℕ) → true ≡ true → pred_in (settled regs) p ≡ pred_in regs p
   pred_stays p h = pred_kept (came arriving ∷ []) regs p fits (λ x. pred_left arriving p x)
 
-  special_stays : (st ss rd : ℕ) (from : Special) → Unread arriving (FromSpecial rd from) → special_in st ss (settled regs) from ≡ special_in st ss regs from
-  special_stays st ss rd special.S0 unread = ap preds_number (sym (kept_preds (came arriving) regs.preds fits.always (λ p old ne. pred_left arriving p old)))
+  special_stays : (st ss rd : ℕ) (from : Special) → Unread arriving (FromSpecial rd from)
+      → special_in st ss (settled regs) from ≡ special_in st ss regs from
+  special_stays st ss rd special.S0 unread =
+      ap preds_number (sym (kept_preds (came arriving) regs.preds fits.always (λ p old ne. pred_left arriving p old)))
   special_stays st ss rd special.Sl unread = low_left arriving rd regs.sl unread
   special_stays st ss rd special.Sh unread = high_left arriving rd regs.sh unread
   special_stays st ss rd special.Srb unread = base_left arriving regs.srb
@@ -117,18 +119,23 @@ module _ (regs : Registers) (fits : FitsRegisters regs) where
 
   write_stays : (st ss : ℕ) (op : Op) → Unread arriving op → write_of st ss (settled regs) op ≡ write_of st ss regs op
   write_stays st ss op unread =
-      any_write regs (settled regs) (lacks (goes_to arriving)) (λ p. true) word_stays pred_stays st ss op (unread_apart arriving op unread) (each_true (op_tests op)) (specials_stay st ss op unread)
+      any_write regs (settled regs) (lacks (goes_to arriving)) (λ p. true) word_stays pred_stays st ss op
+      (unread_apart arriving op unread) (each_true (op_tests op)) (specials_stay st ss op unread)
 
   begun_stays : (op : Op) → Unread arriving op → begun (settled regs) op ≡ begun regs op
-  begun_stays op unread = any_begun regs (settled regs) (lacks (goes_to arriving)) (λ p. true) word_stays pred_stays op (unread_apart arriving op unread)
+  begun_stays op unread = any_begun regs (settled regs) (lacks (goes_to arriving)) (λ p. true) word_stays pred_stays op
+      (unread_apart arriving op unread)
 
   asked_stays : (op : Op) → Unread arriving op → asked (settled regs) op ≡ asked regs op
   asked_stays op unread =
-      any_asked regs (settled regs) (lacks (goes_to arriving)) (λ p. true) word_stays pred_stays (base_left arriving regs.srb) (offset_left arriving regs.sro) op (unread_apart arriving op unread)
+      any_asked regs (settled regs) (lacks (goes_to arriving)) (λ p. true) word_stays pred_stays
+      (base_left arriving regs.srb) (offset_left arriving regs.sro) op (unread_apart arriving op unread)
 
   slot_stays : {A : Type 0} (f : Registers → Op → A) (none : A) (i : Instr) → f (settled regs) i.op ≡ f regs i.op
-      → (if holds (settled regs) i.guard then f (settled regs) i.op else none) ≡ (if holds regs i.guard then f regs i.op else none)
-  slot_stays f none i same = slot_same regs (settled regs) (lacks (goes_to arriving)) (λ p. true) word_stays pred_stays f none i (each_true (tests i)) same
+      → (if holds (settled regs) i.guard then f (settled regs) i.op else none)
+      ≡ (if holds regs i.guard then f regs i.op else none)
+  slot_stays f none i same = slot_same regs (settled regs) (lacks (goes_to arriving)) (λ p. true) word_stays pred_stays
+      f none i (each_true (tests i)) same
 
   second_stays : (st ss : ℕ) (second : Option Instr) → UnreadSecond arriving second
       → second_write st ss (settled regs) second ≡ second_write st ss regs second
@@ -138,35 +145,47 @@ module _ (regs : Registers) (fits : FitsRegisters regs) where
 -- ---- what is pending comes first, whether in the bundle or before it
 
 three_writes : (u v w : Write) (p : Pending) (regs : Registers)
-    → with_pending (after_writes (write.Nothing ∷ v ∷ w ∷ []) (with_pending (after_writes (u ∷ []) regs) pending.Nothing)) p ≡ with_pending (after_writes (u ∷ v ∷ w ∷ []) regs) p
+    → with_pending (after_writes (write.Nothing ∷ v ∷ w ∷ []) (with_pending (after_writes (u ∷ []) regs)
+    pending.Nothing)) p ≡ with_pending (after_writes (u ∷ v ∷ w ∷ []) regs) p
 three_writes u v w p regs = ap (λ r. with_pending r p) (after_writes-append (u ∷ []) (write.Nothing ∷ v ∷ w ∷ []) regs)
 
 -- ---- a bundle that does not read what is pending
 
-unread_late : (from : Sources) (b : Slots) (m : Run) → FitsRegisters m.regs → UnreadBoth m.regs.pending b → late from b (with_settled m) ≡ late from b m
+unread_late : (from : Sources) (b : Slots) (m : Run) → FitsRegisters m.regs → UnreadBoth m.regs.pending b
+    → late from b (with_settled m) ≡ late from b m
 unread_late from b m fits unread =
     let asks = slot_stays m.regs fits asked effect.Nothing b.first (asked_stays m.regs fits b.first.op unread.0) in
     let begins = slot_stays m.regs fits begun pending.Nothing b.first (begun_stays m.regs fits b.first.op unread.0) in
-    let first = slot_stays m.regs fits (write_of m.st m.ss) write.Nothing b.first (write_stays m.regs fits m.st m.ss b.first.op unread.0) in
+    let first = slot_stays m.regs fits (write_of m.st m.ss) write.Nothing b.first
+    (write_stays m.regs fits m.st m.ss b.first.op unread.0) in
     let second = second_stays m.regs fits m.st m.ss b.second unread.1 in
-    (λ k. effected from (asks k) (with_regs m (with_pending (after_writes (write.Nothing ∷ first k ∷ second k ∷ []) (settled m.regs)) (begins k))))
+    (λ k. effected from (asks k)
+    (with_regs m (with_pending (after_writes (write.Nothing ∷ first k ∷ second k ∷ []) (settled m.regs))
+    (begins k))))
     ∙ ap (λ regs. effected from (effect_of b m.regs) (with_regs m regs))
-    (three_writes (came m.regs.pending) (slot_write m.st m.ss m.regs b.first) (second_write m.st m.ss m.regs b.second) (slot_begun m.regs b.first) m.regs)
+    (three_writes (came m.regs.pending) (slot_write m.st m.ss m.regs b.first) (second_write m.st m.ss m.regs b.second)
+    (slot_begun m.regs b.first) m.regs)
 
 -- what is pending after an operation is not read by what ignores it
-pending_unread : (from : Sources) (on : Bool) (op other : Op) (regs : Registers) (m : Run) → ignores op other ≡ true → m.regs.pending ≡ (if on then begun regs op else pending.Nothing)
+pending_unread : (from : Sources) (on : Bool) (op other : Op) (regs : Registers) (m : Run) → ignores op other ≡ true
+    → m.regs.pending ≡ (if on then begun regs op else pending.Nothing)
     → Unread (effected from (if on then asked regs op else effect.Nothing) m).regs.pending other
 pending_unread from false op other regs m h is = subst (λ p. Unread p other) (sym is) tt
 pending_unread from true (Load space width rd ra imm) other regs m h is = h
-pending_unread from true (Mul unsigned ra rb) other regs m h is = subst (λ p. Unread p other) (sym is) (not-true (reads_product other) h)
+pending_unread from true (Mul unsigned ra rb) other regs m h is =
+    subst (λ p. Unread p other) (sym is) (not-true (reads_product other) h)
 pending_unread from true (Store space width ra rs imm) other regs m h is =
-    subst (λ r. Unread r.pending other) (sym (stored_regs space width (address_of (word_in regs ra) imm (store_bytes width)) (word_in regs rs) m)) (subst (λ p. Unread p other) (sym is) tt)
+    subst (λ r. Unread r.pending other)
+    (sym (stored_regs space width (address_of (word_in regs ra) imm (store_bytes width)) (word_in regs rs) m))
+    (subst (λ p. Unread p other) (sym is) tt)
 pending_unread from true (Stack func count) other regs m h is =
     subst (λ r. Unread r.pending other) (sym (stacked_regs func count m)) (subst (λ p. Unread p other) (sym is) tt)
 pending_unread from true _ other regs m h is = subst (λ p. Unread p other) (sym is) tt
 
-unread_behind : (from : Sources) (a b : Slots) (m : Run) → ignores_both a.first.op b ≡ true → UnreadBoth (late from a m).regs.pending b
-unread_behind from a b m h = let both = and_parts (ignores a.first.op b.first.op) (second_ignores a.first.op b.second) h in (own b.first.op both.0, second b.second both.1)
+unread_after : (from : Sources) (a b : Slots) (m : Run) → ignores_both a.first.op b ≡ true
+    → UnreadBoth (late from a m).regs.pending b
+unread_after from a b m h = let both = and_parts (ignores a.first.op b.first.op) (second_ignores a.first.op b.second)
+    h in (own b.first.op both.0, second b.second both.1)
   where
     own : (op : Op) → ignores a.first.op op ≡ true → Unread (late from a m).regs.pending op
     own op ignored = pending_unread from (holds m.regs a.first.guard) a.first.op op m.regs (behind a m) ignored refl
@@ -178,32 +197,42 @@ unread_behind from a b m h = let both = and_parts (ignores a.first.op b.first.op
 -- ---- bundles
 
 -- where what comes late of a bundle is not waited for, the next one does the same before it has come and after
-can_pass : (from : Sources) (a b : Slots) (bs : List Slots) (m : Run) → IsWhole m → is_awaited a (b ∷ bs) ≡ false → late from b (late from a m) ≡ late from b (once from a m)
+can_pass : (from : Sources) (a b : Slots) (bs : List Slots) (m : Run) → IsWhole m → is_awaited a (b ∷ bs) ≡ false
+    → late from b (late from a m) ≡ late from b (once from a m)
 can_pass from a b bs m whole none = so (is_late a.first.op) refl
   where
     so : (is : Bool) → is_late a.first.op ≡ is → late from b (late from a m) ≡ late from b (once from a m)
     so false early = ap (late from b) (early_once from a m whole early)
     so true late_one =
-        let ignored = not-false (ignores_both a.first.op b) (sym (ap (λ l. l && not (ignores_both a.first.op b)) late_one) ∙ none) in
-        sym (unread_late from b (late from a m) (late_fits from a m whole.fits) (unread_behind from a b m ignored))
+        let ignored = not-false (ignores_both a.first.op b)
+        (sym (ap (λ l. l && not (ignores_both a.first.op b)) late_one) ∙ none) in
+        sym (unread_late from b (late from a m) (late_fits from a m whole.fits) (unread_after from a b m ignored))
 
 -- what comes of spaced code depends on what its first bundle leaves
-by_first : (from : Sources) (b : Slots) (bs : List Slots) (m n : Run) → late from b m ≡ late from b n → run_late from (all_done (spaced (b ∷ bs))) m ≡ run_late from (all_done (spaced (b ∷ bs))) n
+by_first : (from : Sources) (b : Slots) (bs : List Slots) (m n : Run) → late from b m ≡ late from b n
+    → run_late from (all_done (spaced (b ∷ bs))) m ≡ run_late from (all_done (spaced (b ∷ bs))) n
 by_first from b bs m n same =
-    elim (is_awaited b bs) as (λ awaited. run_late from (all_done ((if awaited then b ∷ idle ∷ [] else b ∷ []) ++ spaced bs)) m ≡ run_late from (all_done ((if awaited then b ∷ idle ∷ [] else b ∷ []) ++ spaced bs)) n) [
+    elim (is_awaited b bs) as (λ awaited. run_late from (all_done ((if awaited then b ∷ idle ∷ [] else b ∷ [])
+    ++ spaced bs)) m ≡ run_late from (all_done ((if awaited then b ∷ idle ∷ [] else b ∷ []) ++ spaced bs)) n) [
       | true ↦ ap (λ x. run_late from (all_done (spaced bs)) (late from idle x)) same
       | false ↦ ap (run_late from (all_done (spaced bs))) same
     ]
 
 -- the code after a bundle
-rest_runs : (from : Sources) (a : Slots) (bs : List Slots) (m : Run) → IsWhole m → is_awaited a bs ≡ false → run_late from (all_done (spaced bs)) (late from a m) ≡ run_late from (all_done (spaced bs)) (once from a m)
+rest_runs : (from : Sources) (a : Slots) (bs : List Slots) (m : Run) → IsWhole m → is_awaited a bs ≡ false
+    → run_late from (all_done (spaced bs)) (late from a m) ≡ run_late from (all_done (spaced bs)) (once from a m)
 rest_runs from a [] m whole none = early_once from a m whole none
-rest_runs from a (b ∷ bs) m whole none = by_first from b bs (late from a m) (once from a m) (can_pass from a b bs m whole none)
+rest_runs from a (b ∷ bs) m whole none =
+    by_first from b bs (late from a m) (once from a m) (can_pass from a b bs m whole none)
 
-pub in_time : (from : Sources) (bs : List Slots) (m : Run) → IsWhole m → run_late from (all_done (spaced bs)) m ≡ run from (all_done bs) m
+pub in_time : (from : Sources) (bs : List Slots) (m : Run) → IsWhole m → run_late from (all_done (spaced bs)) m
+    ≡ run from (all_done bs) m
 in_time from [] m whole = refl
 in_time from (a ∷ bs) m whole = so (is_awaited a bs) refl ∙ in_time from bs (once from a m) (once_whole from a m whole)
   where
-    so : (awaited : Bool) → is_awaited a bs ≡ awaited → run_late from (all_done ((if awaited then a ∷ idle ∷ [] else a ∷ []) ++ spaced bs)) m ≡ run_late from (all_done (spaced bs)) (once from a m)
-    so true is = ap (run_late from (all_done (spaced bs))) (idle_settles from (late from a m) (late_fits from a m whole.fits))
+    so : (awaited : Bool) → is_awaited a bs ≡ awaited
+        → run_late from (all_done ((if awaited then a ∷ idle ∷ [] else a ∷ []) ++ spaced bs)) m
+        ≡ run_late from (all_done (spaced bs)) (once from a m)
+    so true is =
+        ap (run_late from (all_done (spaced bs))) (idle_settles from (late from a m) (late_fits from a m whole.fits))
     so false is = rest_runs from a bs m whole is

@@ -15,7 +15,8 @@ use Rattle.bundle_sched.proofs.Alike.{merged_at}
 use Rattle.bundle_sched.proofs.PackedFormed.{merged_prompt, merged_is_formed}
 use Rattle.bundle_sched.proofs.SpacedFormed.{parts_prompt, placed_formed}
 
-pub formed_as : (s t : PlainShape) → t ≡ scheduled s → is_formed s ≡ true → ((k : ℕ) → k < length s.functions → parts_idle (slice_index_or s.functions k no_part) ≡ true) → is_formed t ≡ true
+pub formed_as : (s t : PlainShape) → t ≡ scheduled s → is_formed s ≡ true → ((k : ℕ) → k < length s.functions
+    → parts_idle (slice_index_or s.functions k no_part) ≡ true) → is_formed t ≡ true
 formed_as s t told h idles =
     let n = length s.functions in
     let count = length-map s.functions function_merged in
@@ -26,4 +27,5 @@ formed_as s t told h idles =
     let within : k < n = omega (arith, below, count) in
     let f = slice_index_or s.functions k no_part in
     let own = each_formed s.functions k n within each in
-    ap parts_prompt (merged_at s.functions k ∙ function_same k f own) ∙ merged_prompt [] f (function_is_shaped k f own) (idles k within))
+    ap parts_prompt (merged_at s.functions k ∙ function_same k f own) ∙ merged_prompt [] f (function_is_shaped k f own)
+    (idles k within))

@@ -94,9 +94,9 @@ abbrev pub put_unless_idle : Slots → List Slots → List Slots
 put_unless_idle b bs = if is_idle b then bs else put b bs
 
 -- bundles after those that are ordered, one by one, without what does nothing
-abbrev pub ordered_behind : List Slots → List Slots → List Slots
-ordered_behind done [] = done
-ordered_behind done (b ∷ bs) = ordered_behind (put_unless_idle (without_nop b) done) bs
+abbrev pub ordered_after : List Slots → List Slots → List Slots
+ordered_after done [] = done
+ordered_after done (b ∷ bs) = ordered_after (put_unless_idle (without_nop b) done) bs
 
 abbrev pub ordered : List Slots → List Slots
-ordered bs = ordered_behind [] bs
+ordered bs = ordered_after [] bs

@@ -88,7 +88,7 @@ pub fn worked_packed()
     ensures slot_left { is_packed (small.shape_of (part (straight (small.add 1 ∷ [])) small.empty ∷ []) 0) ≡ false }
     ensures idle_left { is_packed (small.shape_of
         (part (straight (small.load ∷ small.idle ∷ add_to 2 ∷ small.idle ∷ [])) small.empty ∷ []) 0) ≡ false }
-    ensures behind_load { is_packed
+    ensures after_load { is_packed
         (small.shape_of (part (straight (small.load ∷ small.idle ∷ [])) small.empty ∷ []) 0) ≡ true }
     ensures first_two { is_packed (small.shape_of
         (part (straight (add_to 2 ∷ add_to 3 ∷ small.load ∷ small.idle ∷ [])) small.empty ∷ []) 0) ≡ false }

@@ -17,7 +17,8 @@ meaning_found name names f is = ap (option_map (λ t. t.1)) is ∙ by (last_of n
     by None = refl
     by (Some x) = refl
 
-pub past_found : (name : List ℕ) (outer : ℕ) (names : List Named) (f : Option (ℕ × Meaning)) → f ≡ found_among name names
+pub past_found : (name : List ℕ) (outer : ℕ) (names : List Named) (f : Option (ℕ × Meaning)) → f
+    ≡ found_among name names
     → is_past outer (option_map (λ t. t.0) f) ≡ is_some (found name (drop outer names))
 past_found name outer names f is =
     ap (λ g. is_past outer (option_map (λ t. t.0) g)) is ∙ ap (is_past outer) (number (last_of name names))

@@ -19,7 +19,8 @@ not_first_itself a p = grind (arith, nat_tests)
 not_both_first : (a p b q : ℕ) → comes_first a p b q ≡ true → comes_first b q a p ≡ false
 not_both_first a p b q h = grind (arith, nat_tests)
 
-not_first_through : (a p b q c r : ℕ) → comes_first a p b q ≡ false → comes_first b q c r ≡ false → comes_first a p c r ≡ false
+not_first_through : (a p b q c r : ℕ) → comes_first a p b q ≡ false → comes_first b q c r ≡ false
+    → comes_first a p c r ≡ false
 not_first_through a p b q c r h k = grind (arith, nat_tests)
 
 not_itself : (f : Fault) → is_before f f ≡ false
@@ -29,7 +30,8 @@ not_both : (f g : Fault) → is_before f g ≡ true → is_before g f ≡ false
 not_both f g h = not_both_first f.at (fault_number f.kind) g.at (fault_number g.kind) h
 
 not_through : (f g h : Fault) → is_before f g ≡ false → is_before g h ≡ false → is_before f h ≡ false
-not_through f g h a b = not_first_through f.at (fault_number f.kind) g.at (fault_number g.kind) h.at (fault_number h.kind) a b
+not_through f g h a b =
+    not_first_through f.at (fault_number f.kind) g.at (fault_number g.kind) h.at (fault_number h.kind) a b
 
 -- ---- the least
 
@@ -46,7 +48,8 @@ record IsLeastOf (least f : Fault) (faults : List Fault) : Type 0 where
   pub rest : All (λ g. is_before g f ≡ false) faults
 
 least_next : (b : Bool) (x least f : Fault) (faults : List Fault) → is_before x least ≡ b
-    → (least_with (Some x) faults ≡ Some f → IsLeastOf x f faults) → (least_with (Some least) faults ≡ Some f → IsLeastOf least f faults)
+    → (least_with (Some x) faults ≡ Some f → IsLeastOf x f faults) → (least_with (Some least) faults ≡ Some f
+    → IsLeastOf least f faults)
     → least_with (if b then Some x else Some least) faults ≡ Some f → IsLeastOf least f (x ∷ faults)
 least_next true x least f faults is from_x from_least e =
     let t : IsLeastOf x f faults = from_x e in
@@ -63,15 +66,18 @@ least_next false x least f faults is from_x from_least e =
       rest = All-cons (λ g. is_before g f ≡ false) x faults (not_through x least f is t.first) t.rest;
     }
 
-least_from : (faults : List Fault) (least f : Fault) → least_with (Some least) faults ≡ Some f → IsLeastOf least f faults
+least_from : (faults : List Fault) (least f : Fault) → least_with (Some least) faults ≡ Some f
+    → IsLeastOf least f faults
 least_from [] least f e =
     let same : f ≡ least = cc in
     record { among = inl same; first = rw same (not_itself least); rest = All-nil (λ g. is_before g f ≡ false) }
-least_from (x ∷ faults) least f e = least_next (is_before x least) x least f faults refl (least_from faults x f) (least_from faults least f) e
+least_from (x ∷ faults) least f e =
+    least_next (is_before x least) x least f faults refl (least_from faults x f) (least_from faults least f) e
 
 pub one_of_them : (faults : List Fault) (f : Fault) → least_of faults ≡ Some f → Contains faults f
 one_of_them [] f e = absurd cc
-one_of_them (x ∷ faults) f e = ⊎_elim (contains_head f x faults) (contains_more f x faults) (least_from faults x f e).among
+one_of_them (x ∷ faults) f e =
+    ⊎_elim (contains_head f x faults) (contains_more f x faults) (least_from faults x f e).among
 
 pub none_before : (faults : List Fault) (f : Fault) → least_of faults ≡ Some f → All (λ g. is_before g f ≡ false) faults
 none_before [] f e = absurd cc

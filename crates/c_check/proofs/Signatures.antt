@@ -8,8 +8,10 @@ use Rattle.c_tree.specs.declared.units.Parameter.{Parameter}
 use Rattle.c_tree.specs.Sizes.{parameter_size, list_size}
 use Rattle.c_tree.specs.Tokens.{one, kind_tokens, parameters_tokens}
 
-parameters_size : (p : Parameter) (ps : List Parameter) → length (parameters_tokens (p ∷ ps)) + 1 ≡ sum_by parameter_size (p ∷ ps)
-parameters_size p [] = omega (arith, length-append (kind_tokens p.kind) (token.Word p.name ∷ []), sum_by-cons parameter_size p [])
+parameters_size : (p : Parameter) (ps : List Parameter) → length (parameters_tokens (p ∷ ps)) + 1
+    ≡ sum_by parameter_size (p ∷ ps)
+parameters_size p [] =
+    omega (arith, length-append (kind_tokens p.kind) (token.Word p.name ∷ []), sum_by-cons parameter_size p [])
 parameters_size p (q ∷ ps) =
     omega (
       arith,
@@ -22,7 +24,9 @@ some_parameters : (ps : List Parameter) → 0 < length ps → sum_by parameter_s
 some_parameters [] h = absurd (omega arith)
 some_parameters (p ∷ ps) h = omega (arith, parameters_size p ps)
 
-pub list_sized : (void_word : Bool) (ps : List Parameter) → void_word ≡ false → 0 < length ps → list_size void_word ps + 1 ≡ sum_by parameter_size ps
+pub list_sized : (void_word : Bool) (ps : List Parameter) → void_word ≡ false → 0 < length ps → list_size void_word ps
+    + 1 ≡ sum_by parameter_size ps
 list_sized void_word ps no_word some =
-    let listed : list_size void_word ps ≡ length (parameters_tokens ps) = ap (λ b. if b then 1 else length (parameters_tokens ps)) no_word in
+    let listed : list_size void_word ps ≡ length (parameters_tokens ps) =
+    ap (λ b. if b then 1 else length (parameters_tokens ps)) no_word in
     omega (arith, listed, some_parameters ps some)

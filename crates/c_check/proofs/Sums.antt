@@ -18,7 +18,8 @@ use Rattle.c_tree.proofs.Plains.{plain_inner}
 
 pub sum_mapped : {A B : Type 0} (f : B → ℕ) (g : A → B) (xs : List A) → sum_by f (map g xs) ≡ sum_by (λ x. f (g x)) xs
 sum_mapped f g [] = refl
-sum_mapped f g (x ∷ xs) = omega (arith, sum_by-cons f (g x) (map g xs), sum_by-cons (λ y. f (g y)) x xs, sum_mapped f g xs)
+sum_mapped f g (x ∷ xs) =
+    omega (arith, sum_by-cons f (g x) (map g xs), sum_by-cons (λ y. f (g y)) x xs, sum_mapped f g xs)
 
 -- ---- weights
 
@@ -33,7 +34,8 @@ steps_weighed (s ∷ steps) = omega (arith, sum_by-cons step_weight s steps, ste
 abbrev pub argument_weight : Expr → ℕ
 argument_weight e = 6 + expr_weight (plain_expr e)
 
-pub args_weighed : (args : List Expr) → sum_by (λ e. 6 + expr_weight e) (map plain_expr args) ≡ sum_by argument_weight args
+pub args_weighed : (args : List Expr) → sum_by (λ e. 6 + expr_weight e) (map plain_expr args)
+    ≡ sum_by argument_weight args
 args_weighed args = sum_mapped (λ e. 6 + expr_weight e) plain_expr args
 
 abbrev pub statement_weight : Stmt → ℕ
@@ -55,7 +57,8 @@ unfolding arms_weight
 arms_weighed [] = refl
 arms_weighed (a ∷ arms) = omega (arith, sum_by-cons arm_weight a arms, arms_weighed arms)
 
-pub inner_weighed : (s : Stmt) (body : List Stmt) → s ≡ Inner body → stmt_weight (plain_stmt s) ≡ block_weight (block_of body)
+pub inner_weighed : (s : Stmt) (body : List Stmt) → s ≡ Inner body → stmt_weight (plain_stmt s)
+    ≡ block_weight (block_of body)
 unfolding stmt_weight
 inner_weighed s body is = ap (λ x. stmt_weight (plain_stmt x)) is ∙ ap stmt_weight (plain_inner body)
 
@@ -86,7 +89,8 @@ unfolding arms_frame
 arms_framed [] = refl
 arms_framed (a ∷ arms) = omega (arith, sum_by-cons arm_frame a arms, arms_framed arms)
 
-pub inner_framed : (s : Stmt) (body : List Stmt) → s ≡ Inner body → stmt_frame (plain_stmt s) ≡ block_frame (block_of body)
+pub inner_framed : (s : Stmt) (body : List Stmt) → s ≡ Inner body → stmt_frame (plain_stmt s)
+    ≡ block_frame (block_of body)
 unfolding stmt_frame
 inner_framed s body is = ap (λ x. stmt_frame (plain_stmt x)) is ∙ ap stmt_frame (plain_inner body)
 
@@ -106,7 +110,8 @@ size_of_argument e = argument_size (plain_expr e)
 pub args_sized : (args : List Expr) → sum_by argument_size (map plain_expr args) ≡ sum_by size_of_argument args
 args_sized args = sum_mapped argument_size plain_expr args
 
-pub call_sized : (args : List Expr) → 0 < length args → call_size (map plain_expr args) ≡ 2 + sum_by argument_size (map plain_expr args)
+pub call_sized : (args : List Expr) → 0 < length args → call_size (map plain_expr args)
+    ≡ 2 + sum_by argument_size (map plain_expr args)
 call_sized [] h = absurd (omega arith)
 call_sized (e ∷ args) h = refl
 
@@ -149,5 +154,6 @@ items_sized items = sum_mapped item_size plain_item items
 abbrev pub words_of_item : Bool → Item → ℕ
 words_of_item scratch i = item_words scratch (plain_item i)
 
-pub words_summed : (scratch : Bool) (items : List Item) → words_in scratch (map plain_item items) ≡ sum_by (words_of_item scratch) items
+pub words_summed : (scratch : Bool) (items : List Item) → words_in scratch (map plain_item items)
+    ≡ sum_by (words_of_item scratch) items
 words_summed scratch items = sum_mapped (item_words scratch) plain_item items

@@ -15,7 +15,12 @@ use Rattle.c_tree.proofs.Sizes.{braced_size, ended_size}
 consts_size : (k : Const) (ks : List Const) → length (consts_tokens (k ∷ ks)) + 1 ≡ sum_by const_size (k ∷ ks)
 consts_size k [] = omega (arith, sum_by-cons const_size k [])
 consts_size k (l ∷ ks) =
-    omega (arith, length-append (const_tokens k) (one sign.Comma ∷ consts_tokens (l ∷ ks)), consts_size l ks, sum_by-cons const_size k (l ∷ ks))
+    omega (
+      arith,
+      length-append (const_tokens k) (one sign.Comma ∷ consts_tokens (l ∷ ks)),
+      consts_size l ks,
+      sum_by-cons const_size k (l ∷ ks),
+    )
 
 -- the tokens before an array's or a variable's first values, or all of them with the semicolon where there are none
 abbrev pub before_values : Option Length → List Const → ℕ
@@ -33,10 +38,16 @@ size_of_shape (Some l) (k ∷ ks) = omega (arith, consts_size k ks, braced_size 
 named_size : (g : Variable) → length (kind_tokens g.kind ++ token.Word g.name ∷ ended (shape_tokens g.length g.initial))
     ≡ kind_size g.kind + length (shape_tokens g.length g.initial) + 2
 named_size g =
-    omega (arith, length-append (kind_tokens g.kind) (token.Word g.name ∷ ended (shape_tokens g.length g.initial)), ended_size (shape_tokens g.length g.initial))
+    omega (
+      arith,
+      length-append (kind_tokens g.kind) (token.Word g.name ∷ ended (shape_tokens g.length g.initial)),
+      ended_size (shape_tokens g.length g.initial),
+    )
 
-pub size_of_global : (g : Variable) → length (global_tokens g) ≡ (if g.scratch then 1 else 0) + kind_size g.kind + length (shape_tokens g.length g.initial) + 2
+pub size_of_global : (g : Variable) → length (global_tokens g) ≡ (if g.scratch then 1 else 0) + kind_size g.kind
+    + length (shape_tokens g.length g.initial) + 2
 size_of_global g =
-    elim g.scratch as (λ b. length ((if b then word keyword.Scratchpad ∷ [] else []) ++ (kind_tokens g.kind ++ token.Word g.name ∷ ended (shape_tokens g.length g.initial)))
+    elim g.scratch as (λ b. length ((if b then word keyword.Scratchpad ∷ [] else [])
+    ++ (kind_tokens g.kind ++ token.Word g.name ∷ ended (shape_tokens g.length g.initial)))
     ≡ (if b then 1 else 0) + kind_size g.kind + length (shape_tokens g.length g.initial) + 2)
     [ true ↦ omega (arith, named_size g) | false ↦ omega (arith, named_size g) ]

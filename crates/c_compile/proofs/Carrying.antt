@@ -41,20 +41,25 @@ words_at s fits k = elim (cases_lt k (length s.functions)) [
   | inr past ↦ ap (parts_all has_word) (get_or-eq_default s.functions no_part (omega (arith, past)))
 ]
 
-code_words : (u : PlainUnit) → Fit (code_of u) → (k : ℕ) → parts_all has_word (slice_index_or (emitted u).functions k no_part) ≡ true
+code_words : (u : PlainUnit) → Fit (code_of u) → (k : ℕ) → parts_all has_word (slice_index_or (emitted u).functions k
+    no_part) ≡ true
 code_words u fits k = none_lost has_word word_dropped word_paired word_apart (emitted u) k (words_at (code_of u) fits k)
 
 begun_whole : (u : PlainUnit) (input : List ℕ) (shared comm : ℕ → ℕ) → IsWhole (begun_run u input shared comm)
-begun_whole u input shared comm = record { fits = record { count = refl; pred_count = refl; zero = refl; always = refl }; pending = refl }
+begun_whole u input shared comm =
+    record { fits = record { count = refl; pred_count = refl; zero = refl; always = refl }; pending = refl }
 
-pub carried_out : (u : PlainUnit) → tree.is_formed u ≡ true → shape.is_formed (code_of u) ≡ true → FitsImage (code_of u) → Fit (code_of u)
+pub carried_out : (u : PlainUnit) → tree.is_formed u ≡ true → shape.is_formed (code_of u) ≡ true → FitsImage (code_of u)
+    → Fit (code_of u)
     → (input : List ℕ) (shared comm : ℕ → ℕ) → HoldsWords (begun u input shared comm) → CarriesOut u input shared comm
 carried_out u formed well_formed small fits input shared comm words =
     let m = begun_run u input shared comm in
     let whole = begun_whole u input shared comm in
     let backs = backs_of (code_of u) in
-    let iterations = task_iterations u by_words (begun_memory u input shared comm) [] backs refl formed (counts_are_words u (code_words u fits)) in
-    let follows = shape_followed (code_of u) by_words m well_formed small fits whole.fits refl (iterations_as (emitted u) (code_of u) refl (emitted_formed u formed) by_words m whole iterations) in
+    let iterations = task_iterations u by_words (begun_memory u input shared comm) [] backs refl formed
+    (counts_are_words u (code_words u fits)) in
+    let follows = shape_followed (code_of u) by_words m well_formed small fits whole.fits refl
+    (iterations_as (emitted u) (code_of u) refl (emitted_formed u formed) by_words m whole iterations) in
     let does = task_does u input shared comm backs formed (constants_are_words u (code_words u fits)) words in
     let same = follows.run ∙ runs_as (emitted u) (code_of u) refl by_words m whole in
     record { follows = follows; answers = subst (Answers (straight u input shared comm) m) (sym same) does }

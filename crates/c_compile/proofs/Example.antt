@@ -15,4 +15,10 @@ each_small (suc k) within = absurd (omega (arith, within))
 
 pub nine_fits : FitsImage (code_of nine)
 unfolding flag_of read_op set_op cleared_in number_op
-nine_fits = record { small = each_small; within = omega arith; initial = omega arith; input_from = omega arith; input_room = omega arith }
+nine_fits = record {
+  small = each_small;
+  within = omega arith;
+  initial = omega arith;
+  input_from = omega arith;
+  input_room = omega arith;
+}

@@ -13,7 +13,8 @@ run_small : (bs : List ℕ) → IsAscii (take (run Name bs) bs)
 run_small [] = λ i. omega arith
 run_small (b ∷ bs) = first (run_small bs) (is_of_name b) refl
   where
-    first : IsAscii (take (run Name bs) bs) → (t : Bool) → is_of_name b ≡ t → IsAscii (take (if t then suc (run Name bs) else 0) (b ∷ bs))
+    first : IsAscii (take (run Name bs) bs) → (t : Bool) → is_of_name b ≡ t
+        → IsAscii (take (if t then suc (run Name bs) else 0) (b ∷ bs))
     first more true e zero = small b e
     first more true e (suc i) = more i
     first more false e i = omega arith

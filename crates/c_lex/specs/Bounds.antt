@@ -39,8 +39,8 @@ abbrev pub shown : Held → BoundNumber
 shown n = record { value = n.value; left = n.left; rest = n.rest.now }
 
 -- the number after a word
-abbrev pub number_behind : List ℕ → List ℕ → Option BoundNumber
-number_behind word bs =
+abbrev pub number_after : List ℕ → List ℕ → Option BoundNumber
+number_after word bs =
     and_then (past word bs) (λ a. and_then (past_gap a) (λ b. and_then (digits_in_bound b) (λ count. Some (record {
       value = word_value (number_of Decimal 0 (take count b));
       left = length b;
@@ -51,8 +51,8 @@ number_behind word bs =
 abbrev pub bound_text : List ℕ → Option (BoundNumber × BoundNumber)
 bound_text bs =
     and_then (past (codes "loopbound") bs)
-    (λ a. and_then (past_gap a) (λ b. and_then (number_behind (codes "min") b) (λ low.
-    and_then (past_gap low.rest) (λ c. and_then (number_behind (codes "max") c) (λ high. Some (low, high))))))
+    (λ a. and_then (past_gap a) (λ b. and_then (number_after (codes "min") b) (λ low.
+    and_then (past_gap low.rest) (λ c. and_then (number_after (codes "max") c) (λ high. Some (low, high))))))
 
 -- a bound that begins where so many bytes are left, and ends where so many are left; or the number that is too great
 abbrev pub bound_piece : ℕ → ℕ → BoundNumber × BoundNumber → Piece

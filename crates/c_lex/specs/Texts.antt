@@ -30,8 +30,8 @@ abbrev pub comment_or_sign_at : List ℕ → Piece
 comment_or_sign_at bs = elim (comment_at bs) [ Some p ↦ p | None ↦ sign_at bs ]
 
 -- the piece that these bytes begin with, after those before them
-unfoldable pub piece_behind : List ℕ → List ℕ → Piece
-piece_behind before bs =
+unfoldable pub piece_after : List ℕ → List ℕ → Piece
+piece_after before bs =
     let b = slice_index bs 0 in
     if is_blank b then Between 1
     else (if begins_name b then name_at bs
@@ -41,7 +41,7 @@ piece_behind before bs =
 
 -- the piece that begins at a place of a text
 abbrev pub piece_at : List ℕ → ℕ → Piece
-piece_at text at = piece_behind (take at text) (drop at text)
+piece_at text at = piece_after (take at text) (drop at text)
 
 -- the tokens of a text; or the first byte with which no piece begins; or the first byte of a number above 2^32 - 1
 pub data Lexed : Type 0 where
@@ -56,17 +56,17 @@ preceded t (no_token at) = no_token at
 preceded t (too_wide at) = too_wide at
 
 -- what a text is from a place on where this piece begins, if we know what it is from any later place on
-abbrev pub behind_piece : ℕ → (ℕ → Lexed) → Piece → Lexed
-behind_piece at later (Between count) = later (at + count)
-behind_piece at later (Is t count) = preceded t (later (at + count))
-behind_piece at later Bad = no_token at
-behind_piece at later (Wide further) = too_wide (at + further)
+abbrev pub after_piece : ℕ → (ℕ → Lexed) → Piece → Lexed
+after_piece at later (Between count) = later (at + count)
+after_piece at later (Is t count) = preceded t (later (at + count))
+after_piece at later Bad = no_token at
+after_piece at later (Wide further) = too_wide (at + further)
 
 -- what a text is from a place on, in so many pieces at most
 abbrev pub lexed_from : ℕ → List ℕ → ℕ → Lexed
 lexed_from zero text at = tokens []
 lexed_from (suc pieces) text at =
-    if nat_le (length text) at then tokens [] else behind_piece at (lexed_from pieces text) (piece_at text at)
+    if nat_le (length text) at then tokens [] else after_piece at (lexed_from pieces text) (piece_at text at)
 
 -- a text has a byte at least for each of its pieces
 abbrev pub lexed : List ℕ → Lexed

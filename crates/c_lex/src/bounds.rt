@@ -1,5 +1,5 @@
 ghost use Rattle.std.specs.Prelude.{◌≡◌, ◌≤◌, length, option_map, IfSome};
-ghost use Rattle.c_lex.specs.Bounds.{past_gap, digits_in_bound, number_behind, bound_text, bound_piece, word_bound, line_bound, shown};
+ghost use Rattle.c_lex.specs.Bounds.{past_gap, digits_in_bound, number_after, bound_text, bound_piece, word_bound, line_bound, shown};
 
 use crate::blanks::ends_line;
 use crate::classes::{Class, run};
@@ -42,8 +42,8 @@ fn digits_in_bound(bytes: &[u8]) -> Option<usize>
 }
 
 // a number of a bound after a word
-fn number_behind<'a>(word: &[u8], bytes: &'a [u8]) -> Option<BoundNumber<'a>>
-    ensures { option_map shown result ≡ number_behind word.now bytes.now }
+fn number_after<'a>(word: &[u8], bytes: &'a [u8]) -> Option<BoundNumber<'a>>
+    ensures { option_map shown result ≡ number_after word.now bytes.now }
 {
     let number = past_gap(past(word, bytes)?)?;
     let count = digits_in_bound(number)?;
@@ -60,8 +60,8 @@ pub(crate) fn bound_text(bytes: &[u8]) -> Option<(BoundNumber, BoundNumber)>
     ensures { option_map (λ b. (shown b.0, shown b.1)) result ≡ bound_text bytes.now }
 {
     let words = past_gap(past(b"loopbound", bytes)?)?;
-    let low = number_behind(b"min", words)?;
-    let high = number_behind(b"max", past_gap(low.rest)?)?;
+    let low = number_after(b"min", words)?;
+    let high = number_after(b"max", past_gap(low.rest)?)?;
     Some((low, high))
 }
 

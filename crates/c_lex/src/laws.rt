@@ -5,10 +5,10 @@ ghost use Rattle.c_tree.specs.declared.tokens.Token.TheVariants as token;
 ghost use Rattle.c_tree.specs.declared.tokens.Keyword.TheVariants as keyword;
 ghost use Rattle.c_tree.specs.declared.tokens.Sign.TheVariants as sign;
 ghost use Rattle.c_lex.specs.Longest.{IsLongest};
-ghost use Rattle.c_lex.specs.Texts.{piece_behind, lexed_from, lexed, tokens, no_token, too_wide};
+ghost use Rattle.c_lex.specs.Texts.{piece_after, lexed_from, lexed, tokens, no_token, too_wide};
 
 /// Worked texts, for contracts: the definition of a text's tokens computes. It does nothing.
-#[tactic(auto, unfolding(crate::specs::Texts::piece_behind))]
+#[tactic(auto, unfolding(crate::specs::Texts::piece_after))]
 pub fn worked_texts()
     ensures declaration { lexed (codes "int a_1 = 0x1Fu; // one") ≡
         tokens (token.Keyword keyword.Int ∷ token.Word (codes "a_1") ∷ token.Sign sign.Assign ∷ token.Number 31 true
@@ -42,7 +42,7 @@ pub fn worked_texts()
 /// A token is the longest one that can stand at its place, and a text has no more pieces than bytes.
 #[tactic(auto, using(crate::proofs::Longest::token_is_longest, crate::proofs::Steps::enough))]
 pub fn every_text()
-    ensures longest { (before bs : List ℕ) (t : Token) (count : ℕ) → piece_behind before bs ≡ piece.Is t count
+    ensures longest { (before bs : List ℕ) (t : Token) (count : ℕ) → piece_after before bs ≡ piece.Is t count
         → IsLongest before bs t count }
     ensures pieces { (text : List ℕ) (pieces : ℕ) → length text ≤ pieces → lexed_from pieces text 0 ≡ lexed text }
 {}

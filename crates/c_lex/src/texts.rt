@@ -1,6 +1,6 @@
 ghost use Rattle.std.specs.Prelude.{◌≡◌, ◌<◌, ◌≤◌, ◌^◌, length, IfOk, IfErr};
 ghost use Rattle.c_lex.specs.Pieces.{IsWithin};
-ghost use Rattle.c_lex.specs.Texts.{name_at, pragma_at, comment_or_sign_at, piece_behind, tokens, lexed, Refuses};
+ghost use Rattle.c_lex.specs.Texts.{name_at, pragma_at, comment_or_sign_at, piece_after, tokens, lexed, Refuses};
 
 use crate::blanks::{begins_line, comment_at};
 use crate::bounds::{line_bound, word_bound};
@@ -54,11 +54,11 @@ fn comment_or_sign_at(bytes: &[u8]) -> Piece
 }
 
 // the piece that begins here
-#[tactic(auto, unfolding(crate::specs::Texts::piece_behind))]
-fn piece_behind(alloc: Global, before: &[u8], bytes: &[u8]) -> Result<Piece, AllocError>
+#[tactic(auto, unfolding(crate::specs::Texts::piece_after))]
+fn piece_after(alloc: Global, before: &[u8], bytes: &[u8]) -> Result<Piece, AllocError>
     requires some { 0 < length bytes.now }
     requires short { length bytes.now ≤ 4294967295 }
-    ensures is { IfOk result (λ piece. piece ≡ piece_behind before.now bytes.now) }
+    ensures is { IfOk result (λ piece. piece ≡ piece_after before.now bytes.now) }
     ensures within { IfOk result (λ piece. IsWithin piece (length bytes.now)) }
 {
     let first = bytes[0];
@@ -87,7 +87,7 @@ pub fn lex(alloc: Global, text: &str) -> Result<List<Token>, LexFault>
     let mut at = 0;
     while at < bytes.len() {
         let (before, rest) = bytes.split_at(at);
-        let piece = piece_behind(alloc, before, rest)?;
+        let piece = piece_after(alloc, before, rest)?;
         match piece {
             Piece::Between { count } => at += count,
             Piece::Is { token, count } => {

@@ -22,7 +22,8 @@ row_actions (a ∷ body) = ap (action (plain_action a)) (row_actions body)
 row_branches : (branches : List Branch) → plain_branches (hidden-the_row-Branch-1 branches) ≡ branches_of branches
 unfolding plain_action plain_row plain_branches hidden-the_row-Branch-1 hidden
 row_branches [] = refl
-row_branches (b ∷ branches) = ap₂ (λ body rest. branch (plain_sp b.condition) body rest) (row_actions b.body) (row_branches branches)
+row_branches (b ∷ branches) =
+    ap₂ (λ body rest. branch (plain_sp b.condition) body rest) (row_actions b.body) (row_branches branches)
 
 pub plain_choose : (branches : List Branch) (otherwise : List Action)
     → plain_action (Choose branches otherwise) ≡ chooses (branches_of branches) (actions_of otherwise)
@@ -30,12 +31,15 @@ unfolding plain_action
 plain_choose branches otherwise = ap₂ chooses (row_branches branches) (row_actions otherwise)
 
 pub plain_loop : (most : ℕ) (condition : SpExpr) (body : List Action) (step : Option Assignment)
-    → plain_action (Loop most condition body step) ≡ iterations most (plain_sp condition) (actions_of body) (option_map plain_assignment step)
+    → plain_action (Loop most condition body step) ≡ iterations most (plain_sp condition) (actions_of body)
+    (option_map plain_assignment step)
 unfolding plain_action
-plain_loop most condition body step = ap (λ b. iterations most (plain_sp condition) b (option_map plain_assignment step)) (row_actions body)
+plain_loop most condition body step =
+    ap (λ b. iterations most (plain_sp condition) b (option_map plain_assignment step)) (row_actions body)
 
 -- no branches, and what is chosen
-pub chosen_none : (branches : List Branch) (otherwise : PlainActions) → length branches ≡ 0 → choice (branches_of branches) otherwise ≡ otherwise
+pub chosen_none : (branches : List Branch) (otherwise : PlainActions) → length branches ≡ 0
+    → choice (branches_of branches) otherwise ≡ otherwise
 chosen_none [] otherwise none = refl
 chosen_none (b ∷ branches) otherwise none = absurd (omega (arith, none))
 
@@ -47,7 +51,8 @@ chosen_some (b ∷ branches) otherwise some = ap one (plain_choose (b ∷ branch
 
 -- ---- one more
 
-pub actions_push : (xs : List Action) (a : Action) → actions_of (xs ++ a ∷ []) ≡ joined (actions_of xs) (one (plain_action a))
+pub actions_push : (xs : List Action) (a : Action) → actions_of (xs ++ a ∷ [])
+    ≡ joined (actions_of xs) (one (plain_action a))
 actions_push [] a = refl
 actions_push (x ∷ xs) a = ap (action (plain_action x)) (actions_push xs a)
 

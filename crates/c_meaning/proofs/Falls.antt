@@ -12,11 +12,14 @@ use Rattle.c_meaning.proofs.Acted.{plain_choose, plain_loop}
 
 pub choose_size : (a : Action) (branches : List Branch) (otherwise : List Action) → a ≡ Choose branches otherwise
     → action_size (plain_action a) ≡ 2 + branches_size (branches_of branches) + actions_size (actions_of otherwise)
-choose_size a branches otherwise is = ap (λ x. action_size (plain_action x)) is ∙ ap action_size (plain_choose branches otherwise)
+choose_size a branches otherwise is =
+    ap (λ x. action_size (plain_action x)) is ∙ ap action_size (plain_choose branches otherwise)
 
-pub loop_size : (a : Action) (most : ℕ) (condition : SpExpr) (body : List Action) (step : Option Assignment) → a ≡ Loop most condition body step
+pub loop_size : (a : Action) (most : ℕ) (condition : SpExpr) (body : List Action) (step : Option Assignment) → a
+    ≡ Loop most condition body step
     → action_size (plain_action a) ≡ 3 + actions_size (actions_of body)
-loop_size a most condition body step is = ap (λ x. action_size (plain_action x)) is ∙ ap action_size (plain_loop most condition body step)
+loop_size a most condition body step is =
+    ap (λ x. action_size (plain_action x)) is ∙ ap action_size (plain_loop most condition body step)
 
 pub part_size : (actions : List Action) (i : ℕ) (a : Action) → i < length actions → a ≡ get_or actions i a
     → action_size (plain_action a) < actions_size (actions_of actions)

@@ -59,7 +59,8 @@ found_few text names few =
     by None has = tt
     by (Some f) has = has
 
-declared_few : (names : List Named) (text : List ℕ) (m : Meaning) → FewIn names → MeaningFew m → FewIn (declared names text m)
+declared_few : (names : List Named) (text : List ℕ) (m : Meaning) → FewIn names → MeaningFew m
+    → FewIn (declared names text m)
 declared_few [] text m few one = (one, tt)
 declared_few (n ∷ names) text m few one = (few.0, declared_few names text m few.1 one)
 
@@ -69,7 +70,8 @@ after_few names _ few = few
 
 -- ---- calls
 
-callee_few : (is_right : Bool) (at arguments : ℕ) (m : Option Meaning) → FoundFew m → IsTrue (has_none (callee_faults is_right at arguments m))
+callee_few : (is_right : Bool) (at arguments : ℕ) (m : Option Meaning) → FoundFew m
+    → IsTrue (has_none (callee_faults is_right at arguments m))
     → arguments ≤ MOST_PARAMETERS
 callee_few is_right at arguments None few none = absurd (cc)
 callee_few is_right at arguments (Some meaning.Scalar) few none = absurd (cc)
@@ -78,7 +80,8 @@ callee_few is_right at arguments (Some (meaning.Function parameters gives inside
     let typed = where_so (is_right && not gives) at fault.WrongType in
     let again = where_so inside at fault.Recursion in
     let counted = where_so (not (arguments == parameters)) at fault.Params in
-    let same = not_so (not (arguments == parameters)) at fault.Params (none_right again counted (none_right typed (again ++ counted) none)) in
+    let same = not_so (not (arguments == parameters)) at fault.Params
+    (none_right again counted (none_right typed (again ++ counted) none)) in
     as_many arguments parameters same few
   where
     as_many : (a p : ℕ) → not (a == p) ≡ false → p ≤ MOST_PARAMETERS → a ≤ MOST_PARAMETERS
@@ -90,21 +93,26 @@ call_few is_right names at text args few none =
     callee_few is_right at (length args) (found text names) (found_few text names few)
     (none_left (callee_faults is_right at (length args) (found text names)) (args_faults names (at + 2) args) none)
 
-right_few : (names : List Named) (at : ℕ) (r : PlainRight) → FewIn names → IsTrue (has_none (right_faults names at r)) → RightFits r
+right_few : (names : List Named) (at : ℕ) (r : PlainRight) → FewIn names → IsTrue (has_none (right_faults names at r))
+    → RightFits r
 right_few names at (plain.value e) few none = tt
 right_few names at (plain.call text args) few none = call_few true names at text args few none
 
-first_few : (outer : ℕ) (names : List Named) (at : ℕ) (kind : Kind) (text : List ℕ) (r : Option PlainRight) → FewIn names
+first_few : (outer : ℕ) (names : List Named) (at : ℕ) (kind : Kind) (text : List ℕ) (r : Option PlainRight)
+    → FewIn names
     → IsTrue (has_none (declare_faults outer names at kind text r)) → FirstFits r
 first_few outer names at kind text None few none = tt
 first_few outer names at kind text (Some r) few none =
-    right_few (declared names text meaning.Scalar) (at + kind_size kind + 2) r (declared_few names text meaning.Scalar few tt)
-    (none_right (twice_faults outer names (at + kind_size kind) text) (right_faults (declared names text meaning.Scalar) (at + kind_size kind + 2) r) none)
+    right_few (declared names text meaning.Scalar) (at + kind_size kind + 2) r
+    (declared_few names text meaning.Scalar few tt)
+    (none_right (twice_faults outer names (at + kind_size kind) text) (right_faults (declared names text meaning.Scalar)
+    (at + kind_size kind + 2) r) none)
 
 -- ---- statements
 
 -- a statement opens no more variables than its frame has words
-after_open : (open_names : Names) (s : PlainStmt) → length (names_after open_names s).variables ≤ length open_names.variables + stmt_frame s
+after_open : (open_names : Names) (s : PlainStmt) → length (names_after open_names s).variables
+    ≤ length open_names.variables + stmt_frame s
 unfolding stmt_frame
 after_open open_names (plain.declared kind text r) =
     let v : Variable = record { name = text; unsigned = is_unsigned kind } in
@@ -114,15 +122,18 @@ after_open open_names _ = omega arith
 mutual
   unfolding stmt_faults block_faults arms_faults otherwise_faults stmt_frame block_frame arms_frame otherwise_frame
 
-  pub stmt_fits : (w : Within) (names : List Named) (at : ℕ) (o : Names) (s : PlainStmt) → FewIn names → IsTrue (has_none (stmt_faults w names at s))
+  pub stmt_fits : (w : Within) (names : List Named) (at : ℕ) (o : Names) (s : PlainStmt) → FewIn names
+      → IsTrue (has_none (stmt_faults w names at s))
       → length o.variables + stmt_frame s ≤ MOST_LEVELS → StmtFits o s
-  stmt_fits w names at o (plain.declared kind text r) few none room = (omega (arith, room), first_few w.outer names at kind text r few none)
+  stmt_fits w names at o (plain.declared kind text r) few none room =
+      (omega (arith, room), first_few w.outer names at kind text r few none)
   stmt_fits w names at o (plain.set text r) few none room =
       right_few names (at + 2) r few (none_right (scalar_faults names at text) (right_faults names (at + 2) r) none)
   stmt_fits w names at o (plain.set_element text index r) few none room =
       let rest = right_faults names (at + 2 + expr_size index + 2) r in
       right_few names (at + 2 + expr_size index + 2) r few
-      (none_right (whole_faults names (at + 2) index) rest (none_right (array_faults names at text) (whole_faults names (at + 2) index ++ rest) none))
+      (none_right (whole_faults names (at + 2) index) rest (none_right (array_faults names at text)
+      (whole_faults names (at + 2) index ++ rest) none))
   stmt_fits w names at o (plain.called text args) few none room = call_few false names at text args few none
   stmt_fits w names at o (plain.chosen arms otherwise) few none room =
       let first = arms_faults w names at arms in
@@ -135,23 +146,28 @@ mutual
       let body_at = at + bound_size bound + head_size head + 1 in
       let rest = block_faults (looped w (length names)) names body_at body in
       block_fits (looped w (length names)) names body_at o body few
-      (none_right (head_faults names behind head) rest (none_right (bound_faults at bound) (head_faults names behind head ++ rest) none))
+      (none_right (head_faults names behind head) rest (none_right (bound_faults at bound)
+      (head_faults names behind head ++ rest) none))
       (omega (arith, room))
-  stmt_fits w names at o (plain.inner body) few none room = block_fits (opened w (length names)) names (at + 1) o body few none room
+  stmt_fits w names at o (plain.inner body) few none room =
+      block_fits (opened w (length names)) names (at + 1) o body few none room
   stmt_fits w names at o _ few none room = tt
 
-  block_fits : (w : Within) (names : List Named) (at : ℕ) (o : Names) (b : PlainBlock) → FewIn names → IsTrue (has_none (block_faults w names at b))
+  block_fits : (w : Within) (names : List Named) (at : ℕ) (o : Names) (b : PlainBlock) → FewIn names
+      → IsTrue (has_none (block_faults w names at b))
       → length o.variables + block_frame b ≤ MOST_LEVELS → BlockFits o b
   block_fits w names at o plain.no_stmt few none room = tt
   block_fits w names at o (plain.stmt s rest) few none room =
       let first = stmt_faults w names at s in
       let behind = block_faults w (after names s) (at + stmt_size s) rest in (
         stmt_fits w names at o s few (none_left first behind none) (omega (arith, room)),
-        block_fits w (after names s) (at + stmt_size s) (names_after o s) rest (after_few names s few) (none_right first behind none)
+        block_fits w (after names s) (at + stmt_size s) (names_after o s) rest (after_few names s few)
+            (none_right first behind none)
             (omega (arith, room, after_open o s)),
       )
 
-  arms_fit : (w : Within) (names : List Named) (at : ℕ) (o : Names) (arms : PlainArms) → FewIn names → IsTrue (has_none (arms_faults w names at arms))
+  arms_fit : (w : Within) (names : List Named) (at : ℕ) (o : Names) (arms : PlainArms) → FewIn names
+      → IsTrue (has_none (arms_faults w names at arms))
       → length o.variables + arms_frame arms ≤ MOST_LEVELS → ArmsFit o arms
   arms_fit w names at o plain.no_arm few none room = tt
   arms_fit w names at o (plain.arm condition body rest) few none room =
@@ -160,16 +176,20 @@ mutual
       let block = block_faults (opened w (length names)) names body_at body in
       let rest_at = at + (expr_size condition + block_size body + 5 + 1) in
       let behind = arms_faults w names rest_at rest in (
-        block_fits (opened w (length names)) names body_at o body few (none_right held block (none_left (held ++ block) behind none)) (omega (arith, room)),
+        block_fits (opened w (length names)) names body_at o body few
+            (none_right held block (none_left (held ++ block) behind none)) (omega (arith, room)),
         arms_fit w names rest_at o rest few (none_right (held ++ block) behind none) (omega (arith, room)),
       )
 
   otherwise_fits : (w : Within) (names : List Named) (at : ℕ) (o : Names) (otherwise : PlainOtherwise) → FewIn names
-      → IsTrue (has_none (otherwise_faults w names at otherwise)) → length o.variables + otherwise_frame otherwise ≤ MOST_LEVELS → OtherwiseFits o otherwise
+      → IsTrue (has_none (otherwise_faults w names at otherwise)) → length o.variables + otherwise_frame otherwise
+      ≤ MOST_LEVELS → OtherwiseFits o otherwise
   otherwise_fits w names at o plain.no_else few none room = tt
-  otherwise_fits w names at o (plain.or_else body) few none room = block_fits (opened w (length names)) names (at + 1 + 1) o body few none room
+  otherwise_fits w names at o (plain.or_else body) few none room =
+      block_fits (opened w (length names)) names (at + 1 + 1) o body few none room
 
-body_fits : (w : Within) (names : List Named) (at : ℕ) (o : Names) (body : List PlainStmt) → FewIn names → IsTrue (has_none (body_faults w names at body))
+body_fits : (w : Within) (names : List Named) (at : ℕ) (o : Names) (body : List PlainStmt) → FewIn names
+    → IsTrue (has_none (body_faults w names at body))
     → length o.variables + body_frame body ≤ MOST_LEVELS → BodyFits o body
 body_fits w names at o [] few none room = tt
 body_fits w names at o (s ∷ rest) few none room =
@@ -177,15 +197,18 @@ body_fits w names at o (s ∷ rest) few none room =
     let behind = body_faults w (after names s) (at + stmt_size s) rest in
     let sum = sum_by-cons stmt_frame s rest in (
       stmt_fits w names at o s few (none_left first behind none) (omega (arith, room, sum)),
-      body_fits w (after names s) (at + stmt_size s) (names_after o s) rest (after_few names s few) (none_right first behind none)
+      body_fits w (after names s) (at + stmt_size s) (names_after o s) rest (after_few names s few)
+          (none_right first behind none)
           (omega (arith, room, sum, after_open o s)),
     )
 
 -- ---- functions
 
-parameters_few : (names : List Named) (parameters : List Parameter) → FewIn names → FewIn (with_parameters names parameters)
+parameters_few : (names : List Named) (parameters : List Parameter) → FewIn names
+    → FewIn (with_parameters names parameters)
 parameters_few names [] few = few
-parameters_few names (p ∷ parameters) few = parameters_few (declared names p.name meaning.Scalar) parameters (declared_few names p.name meaning.Scalar few tt)
+parameters_few names (p ∷ parameters) few =
+    parameters_few (declared names p.name meaning.Scalar) parameters (declared_few names p.name meaning.Scalar few tt)
 
 pub parameters_open : (parameters : List Parameter) → length (parameter_variables parameters) ≡ length parameters
 parameters_open [] = refl
@@ -206,18 +229,22 @@ name_fits names at text parameters body none =
     let behind = none_right twice (many ++ (large ++ heavy)) none in
     record {
       few = not_past MOST_PARAMETERS (length parameters) at fault.Params (none_left many (large ++ heavy) behind);
-      framed = not_past MOST_FRAME_WORDS (function_frame parameters body) at fault.Frame (none_left large heavy (none_right many (large ++ heavy) behind));
+      framed = not_past MOST_FRAME_WORDS (function_frame parameters body) at fault.Frame
+          (none_left large heavy (none_right many (large ++ heavy) behind));
     }
 
-inner_fits : (cores own : ℕ) (names : List Named) (at : ℕ) (kind : Option Kind) (void_word : Bool) (parameters : List Parameter) (body : List PlainStmt) (o : Names)
+inner_fits : (cores own : ℕ) (names : List Named) (at : ℕ) (kind : Option Kind) (void_word : Bool)
+    (parameters : List Parameter) (body : List PlainStmt) (o : Names)
     → FewIn names → IsTrue (has_none (inner_faults cores own names at kind void_word parameters body))
     → length o.variables + body_frame body ≤ MOST_LEVELS → BodyFits o body
 inner_fits cores own names at kind void_word parameters body o few none room =
-    let within : Within = record { cores = cores; own = own; gives = is_some kind; in_loop = false; outer = length names } in
+    let within : Within =
+    record { cores = cores; own = own; gives = is_some kind; in_loop = false; outer = length names } in
     let body_at = at + 2 + list_size void_word parameters + 2 in
     let all = with_parameters names parameters in
     body_fits within all body_at o body (parameters_few names parameters few)
-    (none_right (parameters_faults (length names) names (at + 2) parameters) (body_faults within all body_at body) none) room
+    (none_right (parameters_faults (length names) names (at + 2) parameters) (body_faults within all body_at body) none)
+    room
 
 item_fits : (cores own : ℕ) (names : List Named) (at : ℕ) (slots : List Slot) (i : PlainItem) → FewIn names
     → IsTrue (has_none (item_faults cores own names at i)) → ItemFits slots i
@@ -229,8 +256,10 @@ item_fits cores own names at slots (plain.function kind text void_word parameter
     let inside = inner_faults cores own (declared names text means) name_at kind void_word parameters body in
     let fits : NameFits parameters body = name_fits names name_at text parameters body (none_left told inside none) in (
       omega (arith, fits.few),
-      inner_fits cores own (declared names text means) name_at kind void_word parameters body (record { slots = slots; variables = parameter_variables parameters })
-          (declared_few names text means few fits.few) (none_right told inside none) (omega (arith, fits.framed, parameters_open parameters)),
+      inner_fits cores own (declared names text means) name_at kind void_word parameters body
+          (record { slots = slots; variables = parameter_variables parameters })
+          (declared_few names text means few fits.few) (none_right told inside none)
+          (omega (arith, fits.framed, parameters_open parameters)),
     )
 
 means_few : (names : List Named) (g : Global) → FewIn names → FewIn (declared names g.name (means_of g))
@@ -246,7 +275,8 @@ with_item_few cores own names at (plain.global of) few none = means_few names of
 with_item_few cores own names at (plain.function kind text void_word parameters body) few none =
     let name_at = at + length (gives_tokens kind) in
     let told = named_faults names name_at text parameters body in
-    let inside = inner_faults cores own (declared names text (function_means true kind parameters)) name_at kind void_word parameters body in
+    let inside = inner_faults cores own (declared names text (function_means true kind parameters)) name_at kind
+    void_word parameters body in
     let fits : NameFits parameters body = name_fits names name_at text parameters body (none_left told inside none) in
     declared_few names text (function_means false kind parameters) few fits.few
 
@@ -260,11 +290,14 @@ items_fit cores own names at slots (i ∷ items) few none =
     let behind = items_faults cores own (with_item names i) (at + item_size i) items in
     let here = none_left first behind none in (
       item_fits cores own names at slots i few here,
-      items_fit cores own (with_item names i) (at + item_size i) slots items (with_item_few cores own names at i few here) (none_right first behind none),
+      items_fit cores own (with_item names i) (at + item_size i) slots items
+          (with_item_few cores own names at i few here) (none_right first behind none),
     )
 
-pub program_fits : (cores own : ℕ) (slots : List Slot) (items : List PlainItem) → IsValid items cores own → Each (ItemFits slots) items
-program_fits cores own slots items valid = items_fit cores own given 0 slots items (tt, (tt, tt)) (in_items cores own items valid)
+pub program_fits : (cores own : ℕ) (slots : List Slot) (items : List PlainItem) → IsValid items cores own
+    → Each (ItemFits slots) items
+program_fits cores own slots items valid =
+    items_fit cores own given 0 slots items (tt, (tt, tt)) (in_items cores own items valid)
 
 pub item_at : (slots : List Slot) (items : List Item) (i : ℕ) (t : Item) → i < length items → t ≡ get_or items i t
     → Each (ItemFits slots) (map plain_item items) → ItemFits slots (plain_item t)
@@ -279,16 +312,20 @@ body_block o (s ∷ body) fit = (fit.0, body_block (names_after o (plain_stmt s)
 
 -- ---- as many functions as have numbers
 
-pub as_many : (slots : List Slot) (fs : List (List ℕ)) (items : List PlainItem) → length (resolved_items slots fs items) ≡ length (names_in items)
+pub as_many : (slots : List Slot) (fs : List (List ℕ)) (items : List PlainItem) → length (resolved_items slots fs items)
+    ≡ length (names_in items)
 as_many slots fs [] = refl
 as_many slots fs (plain.global of ∷ items) = as_many slots fs items
-as_many slots fs (plain.function kind text void_word parameters body ∷ items) = omega (arith, as_many slots (fs ++ text ∷ []) items)
+as_many slots fs (plain.function kind text void_word parameters body ∷ items) =
+    omega (arith, as_many slots (fs ++ text ∷ []) items)
 
 names_weigh : (items : List PlainItem) → 64 * length (names_in items) ≤ items_weight items
 names_weigh [] = omega arith
-names_weigh (plain.global of ∷ items) = omega (arith, names_weigh items, sum_by-cons item_weight (plain.global of) items)
+names_weigh (plain.global of ∷ items) =
+    omega (arith, names_weigh items, sum_by-cons item_weight (plain.global of) items)
 names_weigh (plain.function kind text void_word parameters body ∷ items) =
     omega (arith, names_weigh items, sum_by-cons item_weight (plain.function kind text void_word parameters body) items)
 
-pub few_functions : (cores own : ℕ) (items : List PlainItem) → IsValid items cores own → length (names_in items) ≤ MOST_TASK_WEIGHT
+pub few_functions : (cores own : ℕ) (items : List PlainItem) → IsValid items cores own → length (names_in items)
+    ≤ MOST_TASK_WEIGHT
 few_functions cores own items valid = omega (arith, names_weigh items, task_fits cores own items valid)

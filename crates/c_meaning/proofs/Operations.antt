@@ -32,6 +32,7 @@ sign_worth : (op : UnaryOp) (e : PlainSp) (s : State) → worth (resolved_sign o
 sign_worth unary.Minus e s = refl
 sign_worth _ e s = refl
 
-pub signs_worth : (ops : List UnaryOp) (e : PlainSp) (s : State) → worth (resolved_signs ops e) s ≡ signs_value ops (worth e s)
+pub signs_worth : (ops : List UnaryOp) (e : PlainSp) (s : State) → worth (resolved_signs ops e) s
+    ≡ signs_value ops (worth e s)
 signs_worth [] e s = refl
 signs_worth (op ∷ ops) e s = sign_worth op (resolved_signs ops e) s ∙ ap (signed_value op) (signs_worth ops e s)

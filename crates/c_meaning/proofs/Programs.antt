@@ -19,11 +19,14 @@ use Rattle.c_meaning.proofs.Means.{body_means}
 
 -- ---- numbers of functions
 
-pub number_same : (text : List ℕ) (fs : List (List ℕ)) (f : List ℕ) → bytes_eq f text ≡ true → number_of text (fs ++ f ∷ []) ≡ Some (length fs)
+pub number_same : (text : List ℕ) (fs : List (List ℕ)) (f : List ℕ) → bytes_eq f text ≡ true
+    → number_of text (fs ++ f ∷ []) ≡ Some (length fs)
 number_same text fs f same = number_pushed text fs f ∙ ap (λ b. if b then Some (length fs) else number_of text fs) same
 
-pub number_other : (text : List ℕ) (fs : List (List ℕ)) (f : List ℕ) → bytes_eq f text ≡ false → number_of text (fs ++ f ∷ []) ≡ number_of text fs
-number_other text fs f other = number_pushed text fs f ∙ ap (λ b. if b then Some (length fs) else number_of text fs) other
+pub number_other : (text : List ℕ) (fs : List (List ℕ)) (f : List ℕ) → bytes_eq f text ≡ false
+    → number_of text (fs ++ f ∷ []) ≡ number_of text fs
+number_other text fs f other =
+    number_pushed text fs f ∙ ap (λ b. if b then Some (length fs) else number_of text fs) other
 
 -- ---- functions in order
 
@@ -31,8 +34,10 @@ serves_front : (rs more : List PlainActions) (n : ℕ) → n ≤ length rs → s
 serves_front rs more zero within = refl
 serves_front rs more (suc n) within =
     let before = serves_front rs more n (omega arith) in
-    let body : slice_index_or (rs ++ more) n no_action ≡ slice_index_or rs n no_action = get_or_append_left rs more no_action n (omega arith) in
-    let next : Serves → PlainActions → Serves = λ g b k args world. if k == n then routine_outcome g b args world else g k args world in
+    let body : slice_index_or (rs ++ more) n no_action ≡ slice_index_or rs n no_action =
+    get_or_append_left rs more no_action n (omega arith) in
+    let next : Serves → PlainActions → Serves =
+    λ g b k args world. if k == n then routine_outcome g b args world else g k args world in
     ap₂ next before body
 
 serves_last : (rs : List PlainActions) (r : PlainActions) (n : ℕ) (args : List ℕ) (world : World) → length rs ≡ n
@@ -40,12 +45,14 @@ serves_last : (rs : List PlainActions) (r : PlainActions) (n : ℕ) (args : List
 serves_last rs r n args world count =
     let first : n - n ≡ 0 = omega arith in
     let body : slice_index_or (rs ++ r ∷ []) n no_action ≡ r =
-    get_or-append_right rs (r ∷ []) n n no_action count (omega arith) ∙ ap (λ i. slice_index_or (r ∷ []) i no_action) first in
+    get_or-append_right rs (r ∷ []) n n no_action count (omega arith)
+    ∙ ap (λ i. slice_index_or (r ∷ []) i no_action) first in
     ap (λ b. if b then routine_outcome (serves (rs ++ r ∷ []) n) (slice_index_or (rs ++ r ∷ []) n no_action) args world
     else serves (rs ++ r ∷ []) n n args world) (eq-eqb n n refl)
     ∙ ap₂ (λ g b. routine_outcome g b args world) (serves_front rs (r ∷ []) n (omega arith)) body
 
-serves_earlier : (rs : List PlainActions) (r : PlainActions) (n k : ℕ) (args : List ℕ) (world : World) → length rs ≡ n → k < n
+serves_earlier : (rs : List PlainActions) (r : PlainActions) (n k : ℕ) (args : List ℕ) (world : World)
+    → length rs ≡ n → k < n
     → serves (rs ++ r ∷ []) (suc n) k args world ≡ serves rs n k args world
 serves_earlier rs r n k args world count below =
     let other : k ≢ n = omega arith in
@@ -55,19 +62,25 @@ serves_earlier rs r n k args world count below =
 
 -- ---- one function more
 
-routine_means : (slots : List Slot) (fs : List (List ℕ)) (g : Serves) (parameters : List Parameter) (body : List PlainStmt) (args : List ℕ) (world : World)
-    → routine_outcome g (resolved_body fs (record { slots = slots; variables = parameter_variables parameters }) body) args world
+routine_means : (slots : List Slot) (fs : List (List ℕ)) (g : Serves) (parameters : List Parameter)
+    (body : List PlainStmt) (args : List ℕ) (world : World)
+    → routine_outcome g (resolved_body fs (record { slots = slots; variables = parameter_variables parameters })
+    body) args world
     ≡ function_outcome slots (calls_by fs g) parameters body args world
 routine_means slots fs g parameters body args world =
     ap (λ (d : Done). let given : Outcome = record { value = way_value d.way; world = d.state.world } in given)
-    (body_means fs (record { slots = slots; variables = parameter_variables parameters }) g body (record { locals = slice_index args; world = world }))
+    (body_means fs (record { slots = slots; variables = parameter_variables parameters }) g body
+    (record { locals = slice_index args; world = world }))
 
-one_more : (slots : List Slot) (fs : List (List ℕ)) (rs : List PlainActions) (n : ℕ) (kind : Option Kind) (its_name : List ℕ) (void_word : Bool)
+one_more : (slots : List Slot) (fs : List (List ℕ)) (rs : List PlainActions) (n : ℕ) (kind : Option Kind)
+    (its_name : List ℕ) (void_word : Bool)
     (parameters : List Parameter) (body : List PlainStmt) → length fs ≡ n → length rs ≡ n
     → calls_with slots (calls_by fs (serves rs n)) (plain.function kind its_name void_word parameters body)
     ≡ calls_by (fs ++ its_name ∷ [])
-    (serves (rs ++ resolved_body fs (record { slots = slots; variables = parameter_variables parameters }) body ∷ []) (suc n))
-one_more slots fs rs n kind its_name void_word parameters body count_fs count_rs = λ i text args world. at text args world i
+    (serves (rs ++ resolved_body fs (record { slots = slots; variables = parameter_variables parameters }) body ∷ [])
+    (suc n))
+one_more slots fs rs n kind its_name void_word parameters body count_fs count_rs =
+    λ i text args world. at text args world i
   where
     r : PlainActions
     r = resolved_body fs (record { slots = slots; variables = parameter_variables parameters }) body
@@ -78,23 +91,28 @@ one_more slots fs rs n kind its_name void_word parameters body count_fs count_rs
     earlier (Some k) args world below = sym (serves_earlier rs r n k args world count_rs (below k refl))
 
     by : (b : Bool) (text args : List ℕ) (world : World) → bytes_eq its_name text ≡ b
-        → (if b then function_outcome slots (calls_by fs (serves rs n)) parameters body args world else calls_by fs (serves rs n) text args world)
+        → (if b then function_outcome slots (calls_by fs (serves rs n)) parameters body args world else calls_by fs
+        (serves rs n) text args world)
         ≡ numbered (serves (rs ++ r ∷ []) (suc n)) (number_of text (fs ++ its_name ∷ [])) args world
     by true text args world is =
-        sym (ap (λ k. numbered (serves (rs ++ r ∷ []) (suc n)) k args world) (number_same text fs its_name is ∙ ap Some count_fs)
+        sym (ap (λ k. numbered (serves (rs ++ r ∷ []) (suc n)) k args world) (number_same text fs its_name is
+        ∙ ap Some count_fs)
         ∙ serves_last rs r n args world count_rs ∙ routine_means slots fs (serves rs n) parameters body args world)
     by false text args world is =
-        earlier (number_of text fs) args world (λ j e. let below = subst (λ k. IfSome k (λ i. i < length fs)) e (number_within text fs) in omega arith)
+        earlier (number_of text fs) args world (λ j e. let below = subst (λ k. IfSome k (λ i. i < length fs)) e
+        (number_within text fs) in omega arith)
         ∙ sym (ap (λ k. numbered (serves (rs ++ r ∷ []) (suc n)) k args world) (number_other text fs its_name is))
 
     at : (text args : List ℕ) (world : World)
-        → calls_with slots (calls_by fs (serves rs n)) (plain.function kind its_name void_word parameters body) text args world
+        → calls_with slots (calls_by fs (serves rs n)) (plain.function kind its_name void_word parameters body)
+        text args world
         ≡ calls_by (fs ++ its_name ∷ []) (serves (rs ++ r ∷ []) (suc n)) text args world
     at text args world = by (bytes_eq its_name text) text args world refl
 
 -- ---- all functions
 
-items_mean : (slots : List Slot) (fs : List (List ℕ)) (rs : List PlainActions) (n : ℕ) (items : List PlainItem) (names : List (List ℕ)) (all : List PlainActions)
+items_mean : (slots : List Slot) (fs : List (List ℕ)) (rs : List PlainActions) (n : ℕ) (items : List PlainItem)
+    (names : List (List ℕ)) (all : List PlainActions)
     → length fs ≡ n → length rs ≡ n → names ≡ fs ++ names_in items → all ≡ rs ++ resolved_items slots fs items
     → calls_of slots (calls_by fs (serves rs n)) items ≡ calls_by names (serves all (length all))
 items_mean slots fs rs n [] names all count_fs count_rs is_names is_all =
@@ -102,9 +120,11 @@ items_mean slots fs rs n [] names all count_fs count_rs is_names is_all =
     ∙ ap₂ (λ a b. calls_by a (serves b (length b))) (sym (is_names ∙ append-nil fs)) (sym (is_all ∙ append-nil rs))
 items_mean slots fs rs n (plain.global of ∷ items) names all count_fs count_rs is_names is_all =
     items_mean slots fs rs n items names all count_fs count_rs is_names is_all
-items_mean slots fs rs n (plain.function kind its_name void_word parameters body ∷ items) names all count_fs count_rs is_names is_all =
+items_mean slots fs rs n (plain.function kind its_name void_word parameters body ∷ items) names all count_fs count_rs
+    is_names is_all =
     let r = resolved_body fs (record { slots = slots; variables = parameter_variables parameters }) body in
-    ap (λ calls. calls_of slots calls items) (one_more slots fs rs n kind its_name void_word parameters body count_fs count_rs)
+    ap (λ calls. calls_of slots calls items) (one_more slots fs rs n kind its_name void_word parameters body
+    count_fs count_rs)
     ∙ items_mean slots (fs ++ its_name ∷ []) (rs ++ r ∷ []) (suc n) items names all
     (omega (arith, length-append fs (its_name ∷ []))) (omega (arith, length-append rs (r ∷ [])))
     (is_names ∙ sym (append_assoc fs (its_name ∷ []) (names_in items)))
@@ -116,4 +136,5 @@ pub program_means : (items : List PlainItem) (world : World)
     (number_of (codes "main") (names_in items)) [] world
 program_means items world =
     ap (λ (calls : Calls). calls (codes "main") [] world)
-    (items_mean (layout_of items) [] [] 0 items (names_in items) (resolved_items (layout_of items) [] items) refl refl refl refl)
+    (items_mean (layout_of items) [] [] 0 items (names_in items) (resolved_items (layout_of items) [] items) refl
+    refl refl refl)

@@ -19,34 +19,50 @@ use Rattle.c_meaning.proofs.Fits.{GlobalFits, global_fits}
 
 placed : (scratch : Bool) (name : List ℕ) (unsigned : Bool) (first at words : ℕ) → 1 ≤ words
     → first + (if scratch then 0 else words) ≤ PRIVATE_WORDS → at + (if scratch then words else 0) ≤ SCRATCH_WORDS
-    → SlotFits (record { name = name; cell = if scratch then cell.Scratch at else cell.Private first; length = words; unsigned = unsigned })
+    → SlotFits (record {
+      name = name;
+      cell = if scratch then cell.Scratch at else cell.Private first;
+      length = words;
+      unsigned = unsigned;
+    })
 placed true name unsigned first at words some private scratch = (some, scratch)
 placed false name unsigned first at words some private scratch = (some, private)
 
-item_fits : (cores own : ℕ) (names : List Named) (at private scratch : ℕ) (i : PlainItem) → IsTrue (has_none (item_faults cores own names at i))
-    → private + item_words false i ≤ PRIVATE_WORDS → scratch + item_words true i ≤ SCRATCH_WORDS → SlotsFit (item_slots private scratch i)
+item_fits : (cores own : ℕ) (names : List Named) (at private scratch : ℕ) (i : PlainItem)
+    → IsTrue (has_none (item_faults cores own names at i))
+    → private + item_words false i ≤ PRIVATE_WORDS → scratch + item_words true i ≤ SCRATCH_WORDS
+    → SlotsFit (item_slots private scratch i)
 item_fits cores own names at private scratch (global g) none first behind =
     let fits : GlobalFits g = global_fits names at g none in
-    All-cons SlotFits (slot_of private scratch g) [] (placed g.scratch g.name (is_unsigned g.kind) private scratch (words_of g) fits.some first behind) (All-nil SlotFits)
-item_fits cores own names at private scratch (function its_kind text void_word parameters body) none first behind = All-nil SlotFits
+    All-cons SlotFits (slot_of private scratch g) [] (placed g.scratch g.name (is_unsigned g.kind) private scratch
+    (words_of g) fits.some first behind) (All-nil SlotFits)
+item_fits cores own names at private scratch (function its_kind text void_word parameters body) none first behind =
+    All-nil SlotFits
 
 given_fit : SlotsFit given_slots
 given_fit =
-    let shared : Slot = record { name = codes "shared"; cell = cell.Shared 0; length = SHARED_WORDS; unsigned = false } in
+    let shared : Slot =
+    record { name = codes "shared"; cell = cell.Shared 0; length = SHARED_WORDS; unsigned = false } in
     let comm : Slot = record { name = codes "comm"; cell = cell.Comm 0; length = COMM_WORDS; unsigned = false } in
-    All-cons SlotFits shared (comm ∷ []) (omega arith, omega arith) (All-cons SlotFits comm [] (omega arith, omega arith) (All-nil SlotFits))
+    All-cons SlotFits shared (comm ∷ []) (omega arith, omega arith)
+    (All-cons SlotFits comm [] (omega arith, omega arith) (All-nil SlotFits))
 
-slots_fit : (cores own : ℕ) (names : List Named) (at private scratch : ℕ) (items : List PlainItem) → IsTrue (has_none (items_faults cores own names at items))
-    → private + words_in false items ≤ PRIVATE_WORDS → scratch + words_in true items ≤ SCRATCH_WORDS → SlotsFit (slots_from private scratch items)
+slots_fit : (cores own : ℕ) (names : List Named) (at private scratch : ℕ) (items : List PlainItem)
+    → IsTrue (has_none (items_faults cores own names at items))
+    → private + words_in false items ≤ PRIVATE_WORDS → scratch + words_in true items ≤ SCRATCH_WORDS
+    → SlotsFit (slots_from private scratch items)
 slots_fit cores own names at private scratch [] none first behind = given_fit
 slots_fit cores own names at private scratch (i ∷ items) none first behind =
     let here = item_faults cores own names at i in
     let later = items_faults cores own (with_item names i) (at + item_size i) items in
     let sum = sum_by-cons (item_words false) i items in
     let scratch_sum = sum_by-cons (item_words true) i items in
-    All-append SlotFits (item_slots private scratch i) (slots_from (private + item_words false i) (scratch + item_words true i) items)
-    (item_fits cores own names at private scratch i (none_left here later none) (omega (arith, first, sum)) (omega (arith, behind, scratch_sum)))
-    (slots_fit cores own (with_item names i) (at + item_size i) (private + item_words false i) (scratch + item_words true i) items
+    All-append SlotFits (item_slots private scratch i) (slots_from (private + item_words false i)
+    (scratch + item_words true i) items)
+    (item_fits cores own names at private scratch i (none_left here later none) (omega (arith, first, sum))
+    (omega (arith, behind, scratch_sum)))
+    (slots_fit cores own (with_item names i) (at + item_size i) (private + item_words false i)
+    (scratch + item_words true i) items
     (none_right here later none) (omega (arith, first, sum)) (omega (arith, behind, scratch_sum)))
 
 pub layout_fits : (cores own : ℕ) (items : List PlainItem) → IsValid items cores own → SlotsFit (layout_of items)
@@ -57,8 +73,10 @@ layout_fits cores own items valid =
 -- what a name stands for among slots
 pub found_fits : (text : List ℕ) (slots : List Slot) → SlotsFit slots → StandsFits (among_slots text slots)
 found_fits text [] fit = tt
-found_fits text (s ∷ slots) fit = by (bytes_eq s.name text) (found_fits text slots (λ k d below. fit (suc k) d (omega (arith, below))))
+found_fits text (s ∷ slots) fit =
+    by (bytes_eq s.name text) (found_fits text slots (λ k d below. fit (suc k) d (omega (arith, below))))
   where
-    by : (same : Bool) → StandsFits (among_slots text slots) → StandsFits (if same then outside s else among_slots text slots)
+    by : (same : Bool) → StandsFits (among_slots text slots)
+        → StandsFits (if same then outside s else among_slots text slots)
     by true later = fit 0 s (omega arith)
     by false later = later

@@ -46,15 +46,18 @@ shared_all m (u ∷ us) =
     shared_all (with_use m u) us ∙ ap (λ b. b || list_any (is_mention shared_array) us) (shared_one m u)
     ∙ or_or m.shared (is_mention shared_array u) (list_any (is_mention shared_array) us)
 
-assigns_shared_one : (m : Flags) (u : Use) → (with_use m u).assigns_shared ≡ (m.assigns_shared || is_assignment shared_array u)
+assigns_shared_one : (m : Flags) (u : Use) → (with_use m u).assigns_shared
+    ≡ (m.assigns_shared || is_assignment shared_array u)
 assigns_shared_one m (reads s) = or_none m.assigns_shared
 assigns_shared_one m (sets s) = refl
 assigns_shared_one m (sends core) = or_none m.assigns_shared
 
-assigns_shared_all : (m : Flags) (us : List Use) → (with_uses m us).assigns_shared ≡ (m.assigns_shared || list_any (is_assignment shared_array) us)
+assigns_shared_all : (m : Flags) (us : List Use) → (with_uses m us).assigns_shared
+    ≡ (m.assigns_shared || list_any (is_assignment shared_array) us)
 assigns_shared_all m [] = or_none m.assigns_shared
 assigns_shared_all m (u ∷ us) =
-    assigns_shared_all (with_use m u) us ∙ ap (λ b. b || list_any (is_assignment shared_array) us) (assigns_shared_one m u)
+    assigns_shared_all (with_use m u) us ∙ ap (λ b. b || list_any (is_assignment shared_array) us)
+    (assigns_shared_one m u)
     ∙ or_or m.assigns_shared (is_assignment shared_array u) (list_any (is_assignment shared_array) us)
 
 or_true : (b : Bool) → true ≡ (b || true)
@@ -64,9 +67,11 @@ or_true false = refl
 set_one : (flags : List Bool) (at core : ℕ) → core < length flags
     → slice_index_or (slice_set flags at true) core false ≡ (slice_index_or flags core false || at == core)
 set_one flags at core within = elim (cases_eq at core) [
-  | inl same ↦ get_or-set_at flags at core true false (sym same) (omega arith) ∙ or_true (slice_index_or flags core false)
+  | inl same ↦ get_or-set_at flags at core true false (sym same) (omega arith)
+      ∙ or_true (slice_index_or flags core false)
       ∙ ap (λ b. slice_index_or flags core false || b) (sym (eq-eqb at core same))
-  | inr other ↦ get_or-set_other flags at core true false (λ e. other (sym e)) ∙ or_none (slice_index_or flags core false)
+  | inr other ↦ get_or-set_other flags at core true false (λ e. other (sym e))
+      ∙ or_none (slice_index_or flags core false)
       ∙ ap (λ b. slice_index_or flags core false || b) (sym (ne_eqb at core other))
 ]
 
@@ -82,7 +87,8 @@ sends_length m (sets s) = refl
 sends_length m (sends to) = length-set m.sends to true
 
 sends_all : (m : Flags) (us : List Use) (core : ℕ) → core < length m.sends
-    → slice_index_or (with_uses m us).sends core false ≡ (slice_index_or m.sends core false || list_any (is_send core) us)
+    → slice_index_or (with_uses m us).sends core false
+    ≡ (slice_index_or m.sends core false || list_any (is_send core) us)
 sends_all m [] core within = or_none (slice_index_or m.sends core false)
 sends_all m (u ∷ us) core within =
     sends_all (with_use m u) us core (omega (arith, sends_length m u))
@@ -91,7 +97,8 @@ sends_all m (u ∷ us) core within =
 
 -- ---- a whole program
 
-pub noted_tells : (m : Flags) (word : ℕ) (items : List PlainItem) → m ≡ with_uses none_noted (program_uses items) → word ≡ bits m.sends → word < 2 ^ 16
+pub noted_tells : (m : Flags) (word : ℕ) (items : List PlainItem) → m ≡ with_uses none_noted (program_uses items) → word
+    ≡ bits m.sends → word < 2 ^ 16
     → Tells (record { comm = m.comm; shared = m.shared; assigns_shared = m.assigns_shared; sends = word }) items
 noted_tells m word items is same small = record {
   comm = ap (λ (n : Flags). n.comm) is ∙ comm_all none_noted (program_uses items);

@@ -9,7 +9,8 @@ use Rattle.c_mentions.specs.Bits.{has_bit, bits}
 -- ---- one bit
 
 pub no_bit : (k n : ℕ) → n < 2 ^ 32 → nat_lt k 32 ≡ false → nat_lt k 32 ≡ has_bit k n
-no_bit k n small high = high ∙ sym (ap (λ (m : ℕ). m % 2 == 1) (div-eq_of_lt (omega (arith, small, pow_mono (ltb-false k 32 high)))))
+no_bit k n small high =
+    high ∙ sym (ap (λ (m : ℕ). m % 2 == 1) (div-eq_of_lt (omega (arith, small, pow_mono (ltb-false k 32 high)))))
 
 lowest : (b : Bool) (n : ℕ) → ((flag b + 2 * n) % 2 == 1) ≡ b
 lowest true n = let e : (1 + 2 * n) % 2 ≡ 1 = omega arith in ap (λ (m : ℕ). m == 1) e
@@ -24,7 +25,8 @@ bit_of_flags k [] = ap (λ (m : ℕ). m % 2 == 1) (zero-div (2 ^ k))
 bit_of_flags zero (b ∷ bs) = ap (λ (m : ℕ). m % 2 == 1) (div-one (bits (b ∷ bs))) ∙ lowest b (bits bs)
 bit_of_flags (suc k) (b ∷ bs) =
     ap (λ (m : ℕ). m % 2 == 1)
-    (ap (λ (m : ℕ). bits (b ∷ bs) / m) (pow-succ' 2 k) ∙ sym (div-div-eq-div-mul (bits (b ∷ bs)) 2 (2 ^ k)) ∙ ap (λ (m : ℕ). m / 2 ^ k) (others b (bits bs)))
+    (ap (λ (m : ℕ). bits (b ∷ bs) / m) (pow-succ' 2 k) ∙ sym (div-div-eq-div-mul (bits (b ∷ bs)) 2 (2 ^ k))
+    ∙ ap (λ (m : ℕ). m / 2 ^ k) (others b (bits bs)))
     ∙ bit_of_flags k bs
 
 -- ---- one bit more

@@ -16,7 +16,8 @@ use Rattle.c_mentions.specs.Uses.{reads, sets}
 -- ---- a name
 
 pub read_noted : (before after : Flags) (hidden means : Arrays) (text : List ℕ)
-    → means.comm ≡ (bytes_eq text (codes "comm") && not hidden.comm) → means.shared ≡ (bytes_eq text (codes "shared") && not hidden.shared)
+    → means.comm ≡ (bytes_eq text (codes "comm") && not hidden.comm) → means.shared
+    ≡ (bytes_eq text (codes "shared") && not hidden.shared)
     → after ≡ record before { comm = before.comm || means.comm; shared = before.shared || means.shared }
     → Notes hidden before after (λ names. reads (named names text) ∷ [])
 read_noted before after hidden means text comm shared is = record {
@@ -26,7 +27,8 @@ read_noted before after hidden means text comm shared is = record {
 }
 
 pub set_noted : (before after : Flags) (hidden means : Arrays) (text : List ℕ)
-    → means.comm ≡ (bytes_eq text (codes "comm") && not hidden.comm) → means.shared ≡ (bytes_eq text (codes "shared") && not hidden.shared)
+    → means.comm ≡ (bytes_eq text (codes "comm") && not hidden.comm) → means.shared
+    ≡ (bytes_eq text (codes "shared") && not hidden.shared)
     → after ≡ record before {
       comm = before.comm || means.comm;
       shared = before.shared || means.shared;
@@ -46,7 +48,8 @@ set_noted before after hidden means text comm shared is = record {
 -- ---- one variable more
 
 -- the name of what hides is not the array's, or it is
-pub hidden_more : (b c d hidden was now : Bool) → (b ≡ true → c ≡ d) → (b ≡ false → c ≡ true → d ≡ false) → was ≡ (c && not hidden)
+pub hidden_more : (b c d hidden was now : Bool) → (b ≡ true → c ≡ d) → (b ≡ false → c ≡ true → d ≡ false) → was
+    ≡ (c && not hidden)
     → now ≡ (if b then false else was) → now ≡ (c && not (hidden || d))
 hidden_more true true true true was now same other is here = here
 hidden_more true true true false was now same other is here = here
@@ -60,7 +63,8 @@ hidden_more false false d hidden was now same other is here = here ∙ is
 pub same_name : (t text array : List ℕ) → bytes_eq t text ≡ true → bytes_eq text array ≡ bytes_eq t array
 same_name t text array is = ap (λ x. bytes_eq x array) (sym ((bytes_eq-Decides t text).0 is))
 
-pub other_name : (t text array : List ℕ) → bytes_eq t text ≡ false → bytes_eq text array ≡ true → bytes_eq t array ≡ false
+pub other_name : (t text array : List ℕ) → bytes_eq t text ≡ false → bytes_eq text array ≡ true
+    → bytes_eq t array ≡ false
 other_name t text array apart is = ap (bytes_eq t) (sym ((bytes_eq-Decides text array).0 is)) ∙ apart
 
 -- the names where one variable more is open
@@ -70,25 +74,35 @@ and_variable names v = record { slots = names.slots; variables = names.variables
 hides_one : (a : Array) (hidden : Bool) (names : Names) (v : Variable) → HidesIf a hidden names
     → HidesIf a (hidden || bytes_eq v.name (name_of a)) (and_variable names v)
 hides_one a hidden names v hides = λ text.
-    hidden_more (bytes_eq v.name text) (bytes_eq text (name_of a)) (bytes_eq v.name (name_of a)) hidden (stands_for a (named names text))
-    (stands_for a (named (and_variable names v) text)) (same_name v.name text (name_of a)) (other_name v.name text (name_of a)) (hides text) (here text)
+    hidden_more (bytes_eq v.name text) (bytes_eq text (name_of a)) (bytes_eq v.name (name_of a)) hidden
+    (stands_for a (named names text))
+    (stands_for a (named (and_variable names v) text)) (same_name v.name text (name_of a))
+    (other_name v.name text (name_of a)) (hides text) (here text)
   where
     or_outside : List ℕ → Option (Found Variable) → Stands
-    or_outside text l = elim l as (λ _. Stands) [ Some f ↦ level f.at f.is.unsigned | None ↦ among_slots text names.slots ]
+    or_outside text l =
+        elim l as (λ _. Stands) [ Some f ↦ level f.at f.is.unsigned | None ↦ among_slots text names.slots ]
 
     either : (b : Bool) (f : Found Variable) (l : Option (Found Variable)) (text : List ℕ)
-        → stands_for a (or_outside text (if b then Some f else l)) ≡ (if b then false else stands_for a (or_outside text l))
+        → stands_for a (or_outside text (if b then Some f else l))
+        ≡ (if b then false else stands_for a (or_outside text l))
     either true f l text = refl
     either false f l text = refl
 
-    here : (text : List ℕ) → stands_for a (named (and_variable names v) text) ≡ (if bytes_eq v.name text then false else stands_for a (named names text))
+    here : (text : List ℕ) → stands_for a (named (and_variable names v) text)
+        ≡ (if bytes_eq v.name text then false else stands_for a (named names text))
     here text =
         ap (λ l. stands_for a (or_outside text l)) (last_pushed (λ x. x.name) 0 text names.variables v)
-        ∙ either (bytes_eq v.name text) (record { at = 0 + length names.variables; is = v }) (among_variables text names.variables) text
+        ∙ either (bytes_eq v.name text) (record { at = 0 + length names.variables; is = v }) (among_variables text
+        names.variables) text
 
-pub hides_variable : (hidden behind : Arrays) (names : Names) (v : Variable) → behind.comm ≡ (hidden.comm || bytes_eq v.name (codes "comm"))
-    → behind.shared ≡ (hidden.shared || bytes_eq v.name (codes "shared")) → Hides hidden names → Hides behind (and_variable names v)
+pub hides_variable : (hidden behind : Arrays) (names : Names) (v : Variable) → behind.comm
+    ≡ (hidden.comm || bytes_eq v.name (codes "comm"))
+    → behind.shared ≡ (hidden.shared || bytes_eq v.name (codes "shared")) → Hides hidden names
+    → Hides behind (and_variable names v)
 hides_variable hidden behind names v comm shared hides = record {
-  of_comm = subst (λ b. HidesIf comm_array b (and_variable names v)) (sym comm) (hides_one comm_array hidden.comm names v hides.of_comm);
-  of_shared = subst (λ b. HidesIf shared_array b (and_variable names v)) (sym shared) (hides_one shared_array hidden.shared names v hides.of_shared);
+  of_comm = subst (λ b. HidesIf comm_array b (and_variable names v)) (sym comm)
+      (hides_one comm_array hidden.comm names v hides.of_comm);
+  of_shared = subst (λ b. HidesIf shared_array b (and_variable names v)) (sym shared)
+      (hides_one shared_array hidden.shared names v hides.of_shared);
 }

@@ -22,7 +22,7 @@ pub fn meant(hidden: Arrays, name: &str) -> Arrays
     }
 }
 
-/// The arrays that are hidden behind a declaration of a name.
+/// The arrays that are hidden after a declaration of a name.
 pub fn hidden_behind(hidden: Arrays, name: &str) -> Arrays
     ensures comm { result.comm ≡ (hidden.comm || bytes_eq name.now (codes "comm")) }
     ensures shared { result.shared ≡ (hidden.shared || bytes_eq name.now (codes "shared")) }

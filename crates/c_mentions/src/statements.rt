@@ -54,7 +54,7 @@ fn note_sending(
     note_expression(m, hidden, count);
 }
 
-// which arrays are hidden behind a statement: a declaration alone hides more
+// which arrays are hidden after a statement: a declaration alone hides more
 fn hidden_after(hidden: Arrays, s: &Stmt) -> Arrays
     ensures { (names : Names) → Hides hidden names → Hides result (names_after names (plain_stmt s.now)) }
 {

@@ -13,9 +13,9 @@ pub fn worked_mentions()
     ensures itself { mentions comm_array (small.hiding (text.variable (codes "comm"))) ≡ false }
     ensures before { mentions comm_array small.hiding_later ≡ true }
     ensures parameter { mentions shared_array (small.with_parameter (text.number 0)) ≡ false }
-    ensures behind_function { mentions shared_array (small.with_parameter small.shared_element) ≡ true }
+    ensures after_function { mentions shared_array (small.with_parameter small.shared_element) ≡ true }
     ensures inner { mentions comm_array (small.with_block (text.number 0)) ≡ false }
-    ensures behind_block { mentions comm_array (small.with_block small.comm_element) ≡ true }
+    ensures after_block { mentions comm_array (small.with_block small.comm_element) ≡ true }
     ensures outside { mentions comm_array small.hiding_outside ≡ false }
     ensures condition { mentions shared_array (small.looping small.shared_element (text.number 1)) ≡ true }
     ensures step { mentions shared_array (small.looping (text.number 1) small.shared_element) ≡ true }

@@ -8,12 +8,11 @@ pub mod KeptDeclarations
 pub mod KeptExpressions
 pub mod KeptStatements
 pub mod Limits
-pub mod OneBlock
-pub mod OneExpression
 pub mod OneProgram
-pub mod OneStatement
 pub mod Programs
 pub mod Pushed
+pub mod ReadExpressions
+pub mod Reader
 pub mod ReadWhole
 pub mod Reading
 pub mod Refused

@@ -59,7 +59,8 @@ abbrev not_taken : Move → Bool
 not_taken m = elim m as (λ _. Bool) [ taken xs ↦ false | passed ↦ true | refused ↦ true ]
 
 none_by : (s : Sign) → opens_none s ≡ false → (r : Rule) → not_taken (moved_by false r (one s)) ≡ true
-none_by s o (sort ⇒ xs ∣ r) = ap (λ b. not_taken (if b then taken xs else moved_by false r (one s))) (no_room s o sort) ∙ none_by s o r
+none_by s o (sort ⇒ xs ∣ r) =
+    ap (λ b. not_taken (if b then taken xs else moved_by false r (one s))) (no_room s o sort) ∙ none_by s o r
 none_by s o (as_in r xs) = none_then (moved_by false r (one s)) (none_by s o r)
   where
     none_then : (m : Move) → not_taken m ≡ true → not_taken (and_then m xs) ≡ true
@@ -69,7 +70,8 @@ none_by s o (as_in r xs) = none_then (moved_by false r (one s)) (none_by s o r)
 none_by s o or_empty = refl
 none_by s o nothing_else = refl
 
-not_followed : (m : Move) (xs : List Expected) (later : Option (List Expected)) → not_taken m ≡ true → later ≡ None → followed m xs later ≡ None
+not_followed : (m : Move) (xs : List Expected) (later : Option (List Expected)) → not_taken m ≡ true → later ≡ None
+    → followed m xs later ≡ None
 not_followed (taken ys) xs later h e = cc
 not_followed passed xs later h e = e
 not_followed refused xs later h e = refl
@@ -79,18 +81,16 @@ unfolding next moved
 shut s o [] = refl
 shut s o (x ∷ xs) = not_followed (moved false x (one s)) xs (next false xs (one s)) (none_by s o (rule x)) (shut s o xs)
 
-opened_fits : (n : ℕ) (s : Sign) (xs ys : List Expected) → opens_none s ≡ false → n ≤ 64 → next (room_at n) xs (one s) ≡ Some ys → n + 1 ≤ 64
+opened_fits : (n : ℕ) (s : Sign) (xs ys : List Expected) → opens_none s ≡ false → n ≤ 64 → next (room_at n) xs (one s)
+    ≡ Some ys → n + 1 ≤ 64
 opened_fits n s xs ys o within e = by_room (room_at n) refl e
   where
     by_room : (b : Bool) → room_at n ≡ b → next b xs (one s) ≡ Some ys → n + 1 ≤ 64
     by_room true r e = grind (arith, common_steps)
     by_room false r e = let none : next false xs (one s) ≡ None = shut s o xs in cc
 
-pub taken_fits : (n : ℕ) (xs : List Expected) (t : Token) (ys : List Expected) → n ≤ 64 → next (room_at n) xs t ≡ Some ys → open_after t n ≤ 64
-taken_fits n xs (token.Word w) ys h e = h
-taken_fits n xs (token.Number v u) ys h e = h
-taken_fits n xs (token.Bound a b) ys h e = h
-taken_fits n xs (token.Keyword k) ys h e = h
+pub taken_fits : (n : ℕ) (xs : List Expected) (t : Token) (ys : List Expected) → n ≤ 64 → next (room_at n) xs t
+    ≡ Some ys → open_after t n ≤ 64
 taken_fits n xs (token.Sign s) ys h e = sign_fits s e
   where
     sign_fits : (s : Sign) → next (room_at n) xs (one s) ≡ Some ys → open_after (one s) n ≤ 64
@@ -101,27 +101,34 @@ taken_fits n xs (token.Sign s) ys h e = sign_fits s e
     sign_fits sign.OpenBrace e = opened_fits n sign.OpenBrace xs ys refl h e
     sign_fits sign.CloseBrace e = omega arith
     sign_fits s e = h
+taken_fits n xs t ys h e = h
 
 -- tokens that are read whole open at most 64 brackets at once
 pub brackets_fit : (ts : List Token) (n : ℕ) (xs : List Expected) → n ≤ 64 → drive n xs ts ≡ None → most_open n ts ≤ 64
 unfolding drive_to
 brackets_fit [] n xs h e = h
-brackets_fit (t ∷ ts) n xs h e = went (next (room_at n) xs t) refl e (λ ys fit all. brackets_fit ts (open_after t n) ys fit all)
+brackets_fit (t ∷ ts) n xs h e =
+    went (next (room_at n) xs t) refl e (λ ys fit all. brackets_fit ts (open_after t n) ys fit all)
   where
-    went : (m : Option (List Expected)) → next (room_at n) xs t ≡ m → read_on (length ts) (λ ys. drive (open_after t n) ys ts) m ≡ None
-        → ((ys : List Expected) → open_after t n ≤ 64 → drive (open_after t n) ys ts ≡ None → most_open (open_after t n) ts ≤ 64) → max n (most_open (open_after t n) ts) ≤ 64
+    went : (m : Option (List Expected)) → next (room_at n) xs t ≡ m
+        → read_on (length ts) (λ ys. drive (open_after t n) ys ts) m ≡ None
+        → ((ys : List Expected) → open_after t n ≤ 64 → drive (open_after t n) ys ts ≡ None
+        → most_open (open_after t n) ts ≤ 64) → max n (most_open (open_after t n) ts) ≤ 64
     went None r e later = cc
-    went (Some ys) r e later = let fit : most_open (open_after t n) ts ≤ 64 = later ys (taken_fits n xs t ys h r) e in omega arith
+    went (Some ys) r e later =
+        let fit : most_open (open_after t n) ts ≤ 64 = later ys (taken_fits n xs t ys h r) e in omega arith
 
 -- no more tokens are left than there are
-pub left_within : (ts : List Token) (n : ℕ) (xs : List Expected) (left : ℕ) → drive n xs ts ≡ Some left → left ≤ length ts
+pub left_within : (ts : List Token) (n : ℕ) (xs : List Expected) (left : ℕ) → drive n xs ts ≡ Some left
+    → left ≤ length ts
 unfolding drive_to
 left_within [] n xs left e = ended (may_end xs) e
   where
     ended : (b : Bool) → (if b then None else Some 0) ≡ Some left → left ≤ 0
     ended true e = cc
     ended false e = let zero_left : 0 ≡ left = cc in omega arith
-left_within (t ∷ ts) n xs left e = went (next (room_at n) xs t) e (λ ys some. left_within ts (open_after t n) ys left some)
+left_within (t ∷ ts) n xs left e =
+    went (next (room_at n) xs t) e (λ ys some. left_within ts (open_after t n) ys left some)
   where
     went : (m : Option (List Expected)) → read_on (length ts) (λ ys. drive (open_after t n) ys ts) m ≡ Some left
         → ((ys : List Expected) → drive (open_after t n) ys ts ≡ Some left → left ≤ length ts) → left ≤ suc (length ts)

@@ -21,7 +21,8 @@ pub trees_read : IsReading tree_of
 unfolding tree_of
 trees_read = record { reads = λ ts program. by ts program (place_of ts) refl }
   where
-    by : (ts : List Token) (program : IsProgram ts) (place : Option ℕ) (is : place_of ts ≡ place) → tree_by ts place is ≡ plain program.tree
+    by : (ts : List Token) (program : IsProgram ts) (place : Option ℕ) (is : place_of ts ≡ place) → tree_by ts place is
+        ≡ plain program.tree
     by ts program None whole =
         let read : IsProgram ts = (reads_programs ts).0 whole in
         one_tree read.tree program.tree read.fits program.fits (read.written ∙ sym program.written)

@@ -68,7 +68,8 @@ signed s = behind (Only s) [] (only s) nothing
 
 condition : Text Condition
 unfolding moved may_open is_sign
-condition = by Condition (one sign.OpenParenthesis) (Operand ∷ Tail ∷ Only sign.CloseParenthesis ∷ []) refl (expression (Only sign.CloseParenthesis ∷ []) (signed sign.CloseParenthesis))
+condition = by Condition (one sign.OpenParenthesis) (Operand ∷ Tail ∷ Only sign.CloseParenthesis ∷ []) refl
+    (expression (Only sign.CloseParenthesis ∷ []) (signed sign.CloseParenthesis))
 
 statements : Texts (Statements ∷ [])
 unfolding moved is_sign
@@ -80,7 +81,8 @@ block = by Block (one sign.OpenBrace) (Statements ∷ []) refl statements
 
 called : Texts (Arguments ∷ Only sign.Semicolon ∷ [])
 unfolding moved is_sign
-called = behind Arguments (Only sign.Semicolon ∷ []) (by Arguments (one sign.CloseParenthesis) [] refl nothing) (signed sign.Semicolon)
+called = behind Arguments (Only sign.Semicolon ∷ []) (by Arguments (one sign.CloseParenthesis) [] refl nothing)
+    (signed sign.Semicolon)
 
 pub shortest : (x : Expected) → (rest : List Token) → (ts : List Token) × Written x ts rest
 unfolding moved may_open is_sign is_keyword is_name is_number is_bound is_prefix level_at nought
@@ -98,10 +100,13 @@ shortest Initial = by Initial (one sign.Semicolon) [] refl nothing
 shortest AfterName = by AfterName (one sign.OpenParenthesis) (Arguments ∷ Only sign.Semicolon ∷ []) refl called
 shortest Condition = condition
 shortest Block = block
-shortest Assigned = by Assigned (token.Word []) (Only sign.Assign ∷ Operand ∷ Tail ∷ []) refl (behind (Only sign.Assign) (Operand ∷ Tail ∷ []) (only sign.Assign) (expression [] nothing))
-shortest Test = by Test (one sign.Semicolon) (Operand ∷ Tail ∷ Only sign.Semicolon ∷ []) refl (expression (Only sign.Semicolon ∷ []) (signed sign.Semicolon))
+shortest Assigned = by Assigned (token.Word []) (Only sign.Assign ∷ Operand ∷ Tail ∷ []) refl
+    (behind (Only sign.Assign) (Operand ∷ Tail ∷ []) (only sign.Assign) (expression [] nothing))
+shortest Test = by Test (one sign.Semicolon) (Operand ∷ Tail ∷ Only sign.Semicolon ∷ []) refl
+    (expression (Only sign.Semicolon ∷ []) (signed sign.Semicolon))
 shortest Further = by Further (one sign.Comma) (Operand ∷ Tail ∷ []) refl (expression [] nothing)
-shortest Loop = by Loop (word keyword.While) (Condition ∷ Block ∷ []) refl (behind Condition (Block ∷ []) condition (behind Block [] block nothing))
+shortest Loop = by Loop (word keyword.While) (Condition ∷ Block ∷ []) refl (behind Condition (Block ∷ []) condition
+    (behind Block [] block nothing))
 shortest Given = by Given (one sign.Semicolon) [] refl nothing
 shortest Branch = by Branch (one sign.OpenBrace) (Statements ∷ []) refl statements
 shortest Kind = by Kind (word keyword.Int) [] refl nothing

@@ -13,7 +13,8 @@ use Rattle.c_parse.specs.Readers.{StopsAt}
 use Rattle.c_parse.proofs.Limits.{brackets_fit, left_within}
 use Rattle.c_parse.proofs.Programs.{program_read}
 
-pub fitting : (u : Program) (ts : List Token) → ts ≡ items_tokens u.items → Each ItemFits u.items → drive 0 (Items ∷ []) ts ≡ None → Fits u
+pub fitting : (u : Program) (ts : List Token) → ts ≡ items_tokens u.items → Each ItemFits u.items
+    → drive 0 (Items ∷ []) ts ≡ None → Fits u
 fitting u ts written fits read = record {
   grammar = fits;
   brackets = subst BracketsFit written (brackets_fit ts 0 (Items ∷ []) (lit≤ tt) read);
@@ -22,7 +23,8 @@ fitting u ts written fits read = record {
 pub no_program : (ts : List Token) (left : ℕ) → drive 0 (Items ∷ []) ts ≡ Some left → IsProgram ts → ⊥
 no_program ts left stopped p =
     let P : List Token → Type 0 = λ l. drive 0 (Items ∷ []) l ≡ None in
-    let read : drive 0 (Items ∷ []) ts ≡ None = subst P p.written (program_read 64 p.tree p.fits.grammar p.fits.brackets) in cc
+    let read : drive 0 (Items ∷ []) ts ≡ None =
+    subst P p.written (program_read 64 p.tree p.fits.grammar p.fits.brackets) in cc
 
 -- no more tokens are left than there are, where the reader stops
 pub left_few : (ts : List Token) (stop : Stop) (left : ℕ) → stop ≡ Syntax left → StopsAt ts stop → left ≤ length ts

@@ -114,7 +114,8 @@ pub record IsParameters (ts rest : List Token) : Type 0 where
 
 pub record IsMoreParameters (kind : KindOf) (name : List ℕ) (ts rest : List Token) : Type 0 where
   pub parameters : List Parameter
-  pub written : kind_tokens kind ++ token.Word name ∷ ts ≡ parameters_tokens (record { kind = kind; name = name } ∷ parameters) ++ one sign.CloseParenthesis ∷ rest
+  pub written : kind_tokens kind ++ token.Word name ∷ ts ≡ parameters_tokens (record { kind = kind; name = name }
+      ∷ parameters) ++ one sign.CloseParenthesis ∷ rest
 
 -- ---- places
 
@@ -135,10 +136,12 @@ Written Statement ts rest = IsStmt ts rest
 Written PerhapsInt ts rest = IsKind (word keyword.Unsigned ∷ ts) rest
 Written Initial ts rest = (k : KindOf) (w : List ℕ) → IsStmt (kind_tokens k ++ token.Word w ∷ ts) rest
 Written AfterName ts rest = (w : List ℕ) → IsStmt (token.Word w ∷ ts) rest
-Written Condition ts rest = (e : Expr) × ExprFits e × (ts ≡ one sign.OpenParenthesis ∷ (expr_tokens e ++ one sign.CloseParenthesis ∷ rest))
+Written Condition ts rest =
+    (e : Expr) × ExprFits e × (ts ≡ one sign.OpenParenthesis ∷ (expr_tokens e ++ one sign.CloseParenthesis ∷ rest))
 Written Block ts rest = (body : List Stmt) × Each StmtFits body × (ts ≡ braced (body_tokens body) ++ rest)
 Written Assigned ts rest = (w : List ℕ) × (e : Expr) × ExprFits e × (ts ≡ assigned_tokens w (expr_tokens e) ++ rest)
-Written Test ts rest = (e : Expr) × ExprFits e × (ts ≡ one sign.Semicolon ∷ (expr_tokens e ++ one sign.Semicolon ∷ rest))
+Written Test ts rest =
+    (e : Expr) × ExprFits e × (ts ≡ one sign.Semicolon ∷ (expr_tokens e ++ one sign.Semicolon ∷ rest))
 Written Further ts rest = (e : Expr) × ExprFits e × (ts ≡ one sign.Comma ∷ (expr_tokens e ++ rest))
 Written Loop ts rest = IsLoop ts rest
 Written Given ts rest = IsStmt (word keyword.Return ∷ ts) rest

@@ -17,13 +17,15 @@ worth_at [] n e s below is = absurd (omega arith)
 worth_at (x ∷ args) zero e s below is = ap (λ y. worth (plain_sp y) s) (sym is)
 worth_at (x ∷ args) (suc n) e s below is = worth_at args n e s (omega arith) is
 
-worth_past : (args : List SpExpr) (n : ℕ) (s : State) → length args ≤ n → slice_index (args_worth (map plain_sp args) s) n ≡ 0
+worth_past : (args : List SpExpr) (n : ℕ) (s : State) → length args ≤ n
+    → slice_index (args_worth (map plain_sp args) s) n ≡ 0
 worth_past args n s past = get_or_past (args_worth (map plain_sp args) s) n 0 (omega (arith, length_worth args s))
 
 -- the words of arguments, and 0 after them
 pub words_passed : (args : List SpExpr) (own : List ℕ) (s : State)
     → ((k : ℕ) → k < length args → slice_index own k ≡ slice_index (args_worth (map plain_sp args) s) k)
-    → ((k : ℕ) → length args ≤ k → slice_index own k ≡ 0) → slice_index own ≡ slice_index (args_worth (map plain_sp args) s)
+    → ((k : ℕ) → length args ≤ k → slice_index own k ≡ 0) → slice_index own
+    ≡ slice_index (args_worth (map plain_sp args) s)
 words_passed args own s passed cleared = λ i k. at k i
   where
     at : (k : ℕ) → slice_index own k ≡ slice_index (args_worth (map plain_sp args) s) k

@@ -9,15 +9,24 @@ use Rattle.c_meaning.specs.Shown.{actions_of, branches_of}
 use Rattle.c_meaning.specs.Values.{State}
 use Rattle.c_meaning.specs.Sizes.{actions_size, branches_size}
 
-from_here : (g : Serves) (o : State → Done) (branches : List Branch) (i : ℕ) (b : Branch) (s : State) → i < length branches → b ≡ get_or branches i b
-    → branches_done g (branches_of (drop i branches)) o s ≡ branches_done g (branches_of (b ∷ drop (i + 1) branches)) o s
-from_here g o branches i b s within is = ap (λ bs. branches_done g (branches_of bs) o s) (drop_item branches i b within is)
+from_here : (g : Serves) (o : State → Done) (branches : List Branch) (i : ℕ) (b : Branch) (s : State)
+    → i < length branches → b ≡ get_or branches i b
+    → branches_done g (branches_of (drop i branches)) o s
+    ≡ branches_done g (branches_of (b ∷ drop (i + 1) branches)) o s
+from_here g o branches i b s within is =
+    ap (λ bs. branches_done g (branches_of bs) o s) (drop_item branches i b within is)
 
-pub here : (g : Serves) (o : State → Done) (branches : List Branch) (i : ℕ) (b : Branch) (s : State) → i < length branches → b ≡ get_or branches i b
-    → holds (plain_sp b.condition) s ≡ true → branches_done g (branches_of (drop i branches)) o s ≡ actions_done g (actions_of b.body) s
+pub here : (g : Serves) (o : State → Done) (branches : List Branch) (i : ℕ) (b : Branch) (s : State)
+    → i < length branches → b ≡ get_or branches i b
+    → holds (plain_sp b.condition) s ≡ true → branches_done g (branches_of (drop i branches)) o s
+    ≡ actions_done g (actions_of b.body) s
 here g o branches i b s within is it_holds =
     from_here g o branches i b s within is
-    ∙ ap (λ c. elim c as (λ _. Done) [ true ↦ actions_done g (actions_of b.body) s | false ↦ branches_done g (branches_of (drop (i + 1) branches)) o s ]) it_holds
+    ∙ ap (λ c. elim c as (λ _. Done) [
+      | true ↦ actions_done g (actions_of b.body) s
+      | false ↦ branches_done g
+          (branches_of (drop (i + 1) branches)) o s
+    ]) it_holds
 
 pub smaller : (branches : List Branch) (i : ℕ) (b : Branch) → i < length branches → b ≡ get_or branches i b
     → actions_size (actions_of b.body) < branches_size (branches_of branches)

@@ -6,5 +6,6 @@ use Rattle.c_tree.specs.Plain.{plain_item}
 use Rattle.c_run.specs.Reported.{output_from}
 
 pub output_next : (number : ℕ) (items : List Item) (i : ℕ) (x : Item) → i < length items → x ≡ get_or items i x
-    → output_from number (map plain_item (drop i items)) ≡ output_from number (plain_item x ∷ map plain_item (drop (i + 1) items))
+    → output_from number (map plain_item (drop i items))
+    ≡ output_from number (plain_item x ∷ map plain_item (drop (i + 1) items))
 output_next number items i x below is = ap (λ xs. output_from number (map plain_item xs)) (drop_item items i x below is)

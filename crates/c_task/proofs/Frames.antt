@@ -1,4 +1,5 @@
--- The frames on each chain of calls of a valid program's tree fit the stack: each function weighs more than twice its frame.
+-- The frames on each chain of calls of a valid program's tree fit the stack: each function weighs more than twice its
+-- frame.
 use Rattle.std.proofs.Common.{ℕ, zero, suc, ◌+◌, ◌*◌, ◌<◌, ◌≤◌, ◌==◌, Bool, true, false, if◌then◌else◌, List, [], ◌∷◌, ◌++◌, length, None, Some, slice_index, slice_index_or, arith}
 use Rattle.std.specs.Prelude.{IsTrue, nat_lt}
 use Rattle.std.proofs.lemmas.List.Sums.{sum_by-cons}
@@ -56,9 +57,11 @@ mutual
 
 body_weighs : (body : List PlainStmt) → 2 * body_frame body ≤ body_weight body
 body_weighs [] = omega arith
-body_weighs (s ∷ body) = omega (arith, stmt_weighs s, body_weighs body, sum_by-cons stmt_frame s body, sum_by-cons stmt_weight s body)
+body_weighs (s ∷ body) =
+    omega (arith, stmt_weighs s, body_weighs body, sum_by-cons stmt_frame s body, sum_by-cons stmt_weight s body)
 
-function_weighs : (parameters : List Parameter) (body : List PlainStmt) → length parameters ≤ MOST_PARAMETERS → 2 * function_frame parameters body ≤ function_weight body
+function_weighs : (parameters : List Parameter) (body : List PlainStmt) → length parameters ≤ MOST_PARAMETERS
+    → 2 * function_frame parameters body ≤ function_weight body
 function_weighs parameters body few = omega (arith, few, body_weighs body)
 
 -- ---- all functions
@@ -67,24 +70,30 @@ abbrev sum : List ℕ → ℕ
 sum [] = 0
 sum (n ∷ ns) = n + sum ns
 
-few_parameters : (names : List Named) (at : ℕ) (text : List ℕ) (parameters : List Parameter) (body : List PlainStmt) → IsTrue (has_none (named_faults names at text parameters body)) → length parameters ≤ MOST_PARAMETERS
+few_parameters : (names : List Named) (at : ℕ) (text : List ℕ) (parameters : List Parameter) (body : List PlainStmt)
+    → IsTrue (has_none (named_faults names at text parameters body)) → length parameters ≤ MOST_PARAMETERS
 few_parameters names at text parameters body none =
     let params = where_so (nat_lt MOST_PARAMETERS (length parameters)) at fault.Params in
-    let rest = where_so (nat_lt MOST_FRAME_WORDS (function_frame parameters body)) at fault.Frame ++ where_so (nat_lt MOST_FUNCTION_WEIGHT (function_weight body)) at fault.Heavy in
+    let rest = where_so (nat_lt MOST_FRAME_WORDS (function_frame parameters body)) at fault.Frame
+    ++ where_so (nat_lt MOST_FUNCTION_WEIGHT (function_weight body)) at fault.Heavy in
     not_past MOST_PARAMETERS (length parameters) at fault.Params
     (none_left params rest (none_right (twice_faults 0 names at text) (params ++ rest) none))
 
-frames_weigh : (cores own : ℕ) (names : List Named) (at : ℕ) (items : List PlainItem) → IsTrue (has_none (items_faults cores own names at items)) → 2 * sum (frames_in items) ≤ items_weight items
+frames_weigh : (cores own : ℕ) (names : List Named) (at : ℕ) (items : List PlainItem)
+    → IsTrue (has_none (items_faults cores own names at items)) → 2 * sum (frames_in items) ≤ items_weight items
 frames_weigh cores own names at [] none = omega arith
 frames_weigh cores own names at (global of ∷ items) none =
-    let more = frames_weigh cores own (with_item names (global of)) (at + item_size (global of)) items (none_right (item_faults cores own names at (global of)) _ none) in
+    let more = frames_weigh cores own (with_item names (global of)) (at + item_size (global of)) items
+    (none_right (item_faults cores own names at (global of)) _ none) in
     omega (arith, more, sum_by-cons item_weight (global of) items)
 frames_weigh cores own names at (function kind text void_word parameters body ∷ items) none =
     let i = function kind text void_word parameters body in
     let name_at = at + length (gives_tokens kind) in
     let here = none_left (item_faults cores own names at i) _ none in
-    let few = few_parameters names name_at text parameters body (none_left (named_faults names name_at text parameters body) _ here) in
-    let more = frames_weigh cores own (with_item names i) (at + item_size i) items (none_right (item_faults cores own names at i) _ none) in
+    let few = few_parameters names name_at text parameters body
+    (none_left (named_faults names name_at text parameters body) _ here) in
+    let more = frames_weigh cores own (with_item names i) (at + item_size i) items
+    (none_right (item_faults cores own names at i) _ none) in
     omega (arith, more, function_weighs parameters body few, sum_by-cons item_weight i items)
 
 -- ---- chains
@@ -109,7 +118,8 @@ first_frames [] n = 0
 first_frames (f ∷ fs) zero = 0
 first_frames (f ∷ fs) (suc n) = f.frame + first_frames fs n
 
-one_more : (fs : List PlainFunction) (n : ℕ) → first_frames fs n + (slice_index_or fs n no_function).frame ≤ first_frames fs (suc n)
+one_more : (fs : List PlainFunction) (n : ℕ) → first_frames fs n + (slice_index_or fs n no_function).frame
+    ≤ first_frames fs (suc n)
 one_more [] n = omega arith
 one_more (f ∷ fs) zero = omega arith
 one_more (f ∷ fs) (suc n) = omega (arith, one_more fs n)
@@ -121,15 +131,20 @@ first_of_all (f ∷ fs) (suc n) = omega (arith, first_of_all fs n)
 
 chains_below : (fs : List PlainFunction) (n k : ℕ) → chains fs n k ≤ first_frames fs n
 chains_below fs zero k = omega arith
-chains_below fs (suc n) k = by (k == n) (stmts_below (chains fs n) (first_frames fs n) (chains_below fs n) (slice_index_or fs n no_function).body) (chains_below fs n k)
+chains_below fs (suc n) k = by (k == n) (stmts_below (chains fs n) (first_frames fs n) (chains_below fs n)
+    (slice_index_or fs n no_function).body) (chains_below fs n k)
   where
-    by : (b : Bool) → stmts_chain (chains fs n) (slice_index_or fs n no_function).body ≤ first_frames fs n → chains fs n k ≤ first_frames fs n
-        → (if b then (slice_index_or fs n no_function).frame + stmts_chain (chains fs n) (slice_index_or fs n no_function).body else chains fs n k) ≤ first_frames fs (suc n)
+    by : (b : Bool) → stmts_chain (chains fs n) (slice_index_or fs n no_function).body ≤ first_frames fs n
+        → chains fs n k ≤ first_frames fs n
+        → (if b then (slice_index_or fs n no_function).frame + stmts_chain (chains fs n) (slice_index_or fs n
+        no_function).body else chains fs n k) ≤ first_frames fs (suc n)
     by true inner other = omega (arith, inner, one_more fs n)
     by false inner other = omega (arith, other, one_more fs n)
 
 -- none has a frame of more words than are counted for it
-frames_sum : (fs : List PlainFunction) (most : List ℕ) → ((k : ℕ) → k < length fs → (slice_index_or fs k no_function).frame ≤ slice_index most k) → all_frames fs ≤ sum most
+frames_sum : (fs : List PlainFunction) (most : List ℕ)
+    → ((k : ℕ) → k < length fs → (slice_index_or fs k no_function).frame ≤ slice_index most k)
+    → all_frames fs ≤ sum most
 frames_sum [] most each = omega arith
 frames_sum (f ∷ fs) [] each =
     omega (arith, each zero (omega arith), frames_sum fs [] (λ k below. each (suc k) (omega (arith, below))))

@@ -14,9 +14,13 @@ use Rattle.task_words.specs.Meant.{comm_in, HasMeaning, Leaves}
 use Rattle.c_task.specs.Programs.{said, HasProgramMeaning}
 use Rattle.c_task.specs.Translation.{times}
 
-pub program_meaning : (place : Place) (items : List PlainItem) → IsValid items place.cores place.core → (input : List ℕ) (world : ℕ → ℕ) (cycles : ℕ) (own : List Operation) (c : Core)
+pub program_meaning : (place : Place) (items : List PlainItem) → IsValid items place.cores place.core → (input : List ℕ)
+    (world : ℕ → ℕ) (cycles : ℕ) (own : List Operation) (c : Core)
     → HasMeaning (single items) place input world cycles own c → HasProgramMeaning items place input world cycles own c
 program_meaning place items valid input world cycles own c has =
-    let is : IsMeant (tree.meant (single items) place input world) (said items place input world) = taken_meant place.cores place.core items valid input world (comm_in place world) in
-    subst (λ value. Leaves place world cycles (times place items).end value (said items place input world).world own c) is.value
-    (subst (λ (w : World). Leaves place world cycles (times place items).end (tree.meant (single items) place input world).value w own c) is.world has)
+    let is : IsMeant (tree.meant (single items) place input world) (said items place input world) =
+    taken_meant place.cores place.core items valid input world (comm_in place world) in
+    subst (λ value. Leaves place world cycles (times place items).end value (said items place input world).world own c)
+    is.value
+    (subst (λ (w : World). Leaves place world cycles (times place items).end
+    (tree.meant (single items) place input world).value w own c) is.world has)

@@ -15,11 +15,15 @@ use Rattle.c_task.specs.Translation.{times, bound, persist}
 use Rattle.c_task.proofs.Runs.{program_runs}
 use Rattle.c_task.proofs.Sizes.{program_formed}
 
-pub program_sooner : (place : Place) (items : List PlainItem) → IsValid items place.cores place.core → IsCode (single items) → (times place items).end ≤ place.start + persist place items
+pub program_sooner : (place : Place) (items : List PlainItem) → IsValid items place.cores place.core
+    → IsCode (single items) → (times place items).end ≤ place.start + persist place items
 program_sooner place items valid code =
     let u = single items in
     let runs = program_runs place items valid in
-    ends_sooner place (code_of u) (asking u runs.formed).cached (link u code) (behaves u place runs code) (slotted place (linked (code_of u))) place.in_range.among
+    ends_sooner place (code_of u) (asking u runs.formed).cached (link u code) (behaves u place runs code)
+    (slotted place (linked (code_of u))) place.in_range.among
 
-pub program_tighter : (place : Place) (items : List PlainItem) → IsValid items place.cores place.core → persist place items ≤ bound place items
-program_tighter place items valid = persist_less (gap place.table place.slot place.core + place.slot - 1) (code_of (single items)) (program_formed place items valid)
+pub program_tighter : (place : Place) (items : List PlainItem) → IsValid items place.cores place.core
+    → persist place items ≤ bound place items
+program_tighter place items valid = persist_less (gap place.table place.slot place.core + place.slot - 1)
+    (code_of (single items)) (program_formed place items valid)

@@ -18,10 +18,13 @@ use Rattle.c_task.proofs.Targets.{sends_away}
 pub any_of : {X : Type 0} (p : X → Bool) (xs : List X) (x : X) → Contains xs x → p x ≡ true → list_any p xs ≡ true
 any_of p xs x at is = list_any_at p xs at.0 x at.1 (ap p at.2 ∙ is)
 
-pub sent_in_text : (items : List PlainItem) (core : ℕ) → Contains (uses_of (single items)) (sends_to core) → source.sends_to core items ≡ true
-sent_in_text items core at = taken_sends core items (any_of (is_send_to core) (uses_of (single items)) (sends_to core) at (eq-eqb core core refl))
+pub sent_in_text : (items : List PlainItem) (core : ℕ) → Contains (uses_of (single items)) (sends_to core)
+    → source.sends_to core items ≡ true
+sent_in_text items core at = taken_sends core items (any_of (is_send_to core) (uses_of (single items)) (sends_to core)
+    at (eq-eqb core core refl))
 
-pub program_runs : (place : Place) (items : List PlainItem) → IsValid items place.cores place.core → IsRunnable (single items) place
+pub program_runs : (place : Place) (items : List PlainItem) → IsValid items place.cores place.core
+    → IsRunnable (single items) place
 program_runs place items valid = record {
   formed = taken_is_formed place.cores place.core items place.in_range.cores_most valid;
   stack = chains_fit place.cores place.core items place.in_range.cores_most valid;

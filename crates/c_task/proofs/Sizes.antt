@@ -41,23 +41,28 @@ sum [] = 0
 sum (n ∷ ns) = n + sum ns
 
 -- none is heavier than a function may be
-light : (cores own : ℕ) (names : List Named) (at : ℕ) (items : List PlainItem) → IsTrue (has_none (items_faults cores own names at items)) → (k : ℕ)
+light : (cores own : ℕ) (names : List Named) (at : ℕ) (items : List PlainItem)
+    → IsTrue (has_none (items_faults cores own names at items)) → (k : ℕ)
     → slice_index (weights_in items) k ≤ MOST_FUNCTION_WEIGHT
 light cores own names at [] none k = omega arith
 light cores own names at (global of ∷ items) none k =
-    light cores own (with_item names (global of)) (at + item_size (global of)) items (none_right (item_faults cores own names at (global of)) _ none) k
+    light cores own (with_item names (global of)) (at + item_size (global of)) items
+    (none_right (item_faults cores own names at (global of)) _ none) k
 light cores own names at (function kind text void_word parameters body ∷ items) none zero =
     let i = function kind text void_word parameters body in
     let name_at = at + length (gives_tokens kind) in
     let params = where_so (nat_lt MOST_PARAMETERS (length parameters)) name_at fault.Params in
     let frame = where_so (nat_lt MOST_FRAME_WORDS (function_frame parameters body)) name_at fault.Frame in
     let heavy = where_so (nat_lt MOST_FUNCTION_WEIGHT (function_weight body)) name_at fault.Heavy in
-    let here = none_left (named_faults names name_at text parameters body) _ (none_left (item_faults cores own names at i) _ none) in
+    let here = none_left (named_faults names name_at text parameters body) _
+    (none_left (item_faults cores own names at i) _ none) in
     not_past MOST_FUNCTION_WEIGHT (function_weight body) name_at fault.Heavy
-    (none_right frame heavy (none_right params (frame ++ heavy) (none_right (twice_faults 0 names name_at text) (params ++ (frame ++ heavy)) here)))
+    (none_right frame heavy (none_right params (frame ++ heavy) (none_right (twice_faults 0 names name_at text)
+    (params ++ (frame ++ heavy)) here)))
 light cores own names at (function kind text void_word parameters body ∷ items) none (suc k) =
     let i = function kind text void_word parameters body in
-    light cores own (with_item names i) (at + item_size i) items (none_right (item_faults cores own names at i) _ none) k
+    light cores own (with_item names i) (at + item_size i) items (none_right (item_faults cores own names at i) _ none)
+    k
 
 -- together they weigh what the task weighs
 weights_sum : (items : List PlainItem) → sum (weights_in items) ≡ items_weight items
@@ -84,23 +89,32 @@ first_of_all ws zero = omega arith
 first_of_all [] (suc n) = omega arith
 first_of_all (w ∷ ws) (suc n) = omega (arith, first_of_all ws n)
 
-words_within : (size : ℕ → ℕ) (ws : List ℕ) (n : ℕ) → ((k : ℕ) → k < n → 1 + size k ≤ slice_index ws k) → words_below size n ≤ first_sum ws n
+words_within : (size : ℕ → ℕ) (ws : List ℕ) (n : ℕ) → ((k : ℕ) → k < n → 1 + size k ≤ slice_index ws k)
+    → words_below size n ≤ first_sum ws n
 words_within size ws zero each = omega arith
 words_within size ws (suc n) each =
-    omega (arith, words_within size ws n (λ k below. each k (omega (arith, below))), each n (omega arith), one_more ws n)
+    omega (
+      arith,
+      words_within size ws n (λ k below. each k (omega (arith, below))),
+      each n (omega arith),
+      one_more ws n,
+    )
 
 -- ---- the code of a tree
 
 code_length : (u : PlainUnit) → length (code_of u).functions ≡ length u.functions
 code_length u = schedule.functions_stay (emitted u) ∙ codes_length u.functions
 
-idle_slots : (u : PlainUnit) (k : ℕ) → k < length (emitted u).functions → parts_idle (slice_index_or (emitted u).functions k no_part) ≡ true
+idle_slots : (u : PlainUnit) (k : ℕ) → k < length (emitted u).functions
+    → parts_idle (slice_index_or (emitted u).functions k no_part) ≡ true
 idle_slots u k below = emit.idle_as (emitted u) u refl k (omega (arith, below, codes_length u.functions))
 
 code_formed : (u : PlainUnit) → tree.is_formed u ≡ true → shape.is_formed (code_of u) ≡ true
-code_formed u formed = schedule_formed.formed_as (emitted u) (code_of u) refl (emit_formed.formed_as (emitted u) u refl formed) (idle_slots u)
+code_formed u formed = schedule_formed.formed_as (emitted u) (code_of u) refl
+    (emit_formed.formed_as (emitted u) u refl formed) (idle_slots u)
 
-function_size : (u : PlainUnit) → tree.is_formed u ≡ true → (k : ℕ) → k < length u.functions → 1 + size_of (code_of u) k ≤ cost (slice_index_or u.functions k no_function)
+function_size : (u : PlainUnit) → tree.is_formed u ≡ true → (k : ℕ) → k < length u.functions → 1 + size_of (code_of u) k
+    ≤ cost (slice_index_or u.functions k no_function)
 function_size u formed k below =
     omega (arith, schedule.room_as (emitted u) (code_of u) refl k, emit.room_as (emitted u) u refl formed k below)
 
@@ -113,10 +127,17 @@ module _ (place : Place) (items : List PlainItem) (valid : IsValid items place.c
   pub program_formed : shape.is_formed (code_of (single items)) ≡ true
   program_formed = code_formed (single items) formed
 
-  tree_size : (k : ℕ) → k < length (single items).functions → 1 + size_of (code_of (single items)) k ≤ slice_index (weights_in items) k
-  tree_size k below = omega (arith, function_size (single items) formed k below, taken_costs place.cores place.core items place.in_range.cores_most valid k below)
+  tree_size : (k : ℕ) → k < length (single items).functions → 1 + size_of (code_of (single items)) k
+      ≤ slice_index (weights_in items) k
+  tree_size k below = omega (
+    arith,
+    function_size (single items) formed k below,
+    taken_costs place.cores place.core
+        items place.in_range.cores_most valid k below,
+  )
 
-  pub program_size : (k : ℕ) → k < length (code_of (single items)).functions → 1 + size_of (code_of (single items)) k ≤ slice_index (weights_in items) k
+  pub program_size : (k : ℕ) → k < length (code_of (single items)).functions → 1 + size_of (code_of (single items)) k
+      ≤ slice_index (weights_in items) k
   program_size k below = tree_size k (omega (arith, below, code_length (single items)))
 
   pub program_fits : FitsImage (code_of (single items))

@@ -33,18 +33,23 @@ use Rattle.c_task.proofs.Worlds.{world_held}
 bound_is : (place : Place) (items : List PlainItem) → bound_of (single items) place ≡ place.start + bound place items
 bound_is place items =
     let same : gap_in place.table place.slot place.core ≡ gap place.table place.slot place.core =
-    one_gap (is_slot_start place.table place.slot place.core) (gap_in place.table place.slot place.core) (gap place.table place.slot place.core)
-    (gap_is_greatest place.table place.slot place.core (slotted place (linked (code_of (single items))))) (place_gap place) in
+    one_gap (is_slot_start place.table place.slot place.core) (gap_in place.table place.slot place.core)
+    (gap place.table place.slot place.core)
+    (gap_is_greatest place.table place.slot place.core (slotted place (linked (code_of (single items)))))
+    (place_gap place) in
     ap (λ far. place.start + shape_bound (far + place.slot - 1) (code_of (single items))) same
 
-pub program_within : (place : Place) (items : List PlainItem) → IsValid items place.cores place.core → IsCode (single items) → (times place items).end ≤ place.start + bound place items
+pub program_within : (place : Place) (items : List PlainItem) → IsValid items place.cores place.core
+    → IsCode (single items) → (times place items).end ≤ place.start + bound place items
 program_within place items valid code =
     let u = single items in
     let runs = program_runs place items valid in
-    let most = end_within place (code_of u) (asking u runs.formed).cached (link u code) (behaves u place runs code) (slotted place (linked (code_of u))) place.in_range.among in
+    let most = end_within place (code_of u) (asking u runs.formed).cached (link u code) (behaves u place runs code)
+    (slotted place (linked (code_of u))) place.in_range.among in
     omega (arith, most, bound_is place items)
 
-pub tells : (items : List PlainItem) (place : Place) (input : List ℕ) (words : ℕ) (cores : ℕ → Core) (tasks : List Running) (cycles : ℕ) → HasProgram items place input words cores tasks cycles
+pub tells : (items : List PlainItem) (place : Place) (input : List ℕ) (words : ℕ) (cores : ℕ → Core)
+    (tasks : List Running) (cycles : ℕ) → HasProgram items place input words cores tasks cycles
     → Tells items place input tasks (machine_after place.cores cores cycles) cycles
 tells items place input words cores tasks cycles h =
     let m = machine_after place.cores cores cycles in
@@ -53,7 +58,10 @@ tells items place input words cores tasks cycles h =
       keeps = times_there (single items) place input words cores cycles h.task;
       within = program_within place items h.valid h.task.code;
       own = task_whole (single items) place input cores cycles place.in_range.among h.task.begins;
-      meaning = λ world holds fits enough. program_meaning place items h.valid input world cycles own (m.cores place.core)
-          (meaning_there (single items) place input words cores cycles h.task world (world_held (single items) place input world h.task.code.initial h.task.given holds) enough fits);
-      alone = λ is. zeros_fit (single items) place input words cores cycles h.task (λ k. task_of (task_on tasks k)) h.begin (alone_by_texts items place.cores place.core tasks h.said is);
+      meaning = λ world holds fits enough. program_meaning place items h.valid input world cycles own
+          (m.cores place.core)
+          (meaning_there (single items) place input words cores cycles h.task world
+          (world_held (single items) place input world h.task.code.initial h.task.given holds) enough fits);
+      alone = λ is. zeros_fit (single items) place input words cores cycles h.task (λ k. task_of (task_on tasks k))
+          h.begin (alone_by_texts items place.cores place.core tasks h.said is);
     }

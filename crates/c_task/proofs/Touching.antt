@@ -32,16 +32,24 @@ module _ (items : List PlainItem) (core : ℕ) where
   may_store word (inl (low, writes)) = inl (low, assigned items shared_array writes)
   may_store word (inr (k, (few, (is, writes)))) = inr (k, (few, is))
 
-pub touches : (items : List PlainItem) (place : Place) (input values : List ℕ) (cycles : ℕ) → Names (single items) place input values cycles
+pub touches : (items : List PlainItem) (place : Place) (input values : List ℕ) (cycles : ℕ)
+    → Names (single items) place input values cycles
     → Touches items place (translation items).image input values cycles
 touches items place input values cycles named =
     let own = own_operations place (translation items).image input values cycles in
-    let may = MayMake (MayLoadWord (Named items place.core) place.core) (MayStoreWord (Named items place.core) place.core) (MaySendTo (Named items place.core)) in
+    let may = MayMake (MayLoadWord (Named items place.core) place.core)
+    (MayStoreWord (Named items place.core) place.core) (MaySendTo (Named items place.core)) in
     record {
-      loads = each_map may (LoadsOnly (MayLoad items place.core)) (λ o m is. may_load items place.core o.act.word (m.0 is)) own named.operations;
-      stores = each_map may (StoresOnly (MayStore items place.core)) (λ o m is. may_store items place.core o.act.word (m.1 is)) own named.operations;
-      sendings = each_map (λ (s : Sending). Named items place.core (tree.sends_to s.target)) (λ (s : Sending). sends_to s.target items ≡ true)
-          (λ s is. sent_in_text items s.target is) (sendings_at place (translation items).image input values cycles) named.sendings;
-      packets = each_map (λ (p : Packet). Named items place.core (tree.sends_to p.target)) (λ (p : Packet). sends_to p.target items ≡ true)
-          (λ p is. sent_in_text items p.target is) (apart_at place (translation items).image input values cycles).core.plain.interface.under_way named.packets;
+      loads = each_map may (LoadsOnly (MayLoad items place.core)) (λ o m is. may_load items place.core o.act.word
+          (m.0 is)) own named.operations;
+      stores = each_map may (StoresOnly (MayStore items place.core)) (λ o m is. may_store items place.core o.act.word
+          (m.1 is)) own named.operations;
+      sendings = each_map (λ (s : Sending). Named items place.core (tree.sends_to s.target))
+          (λ (s : Sending). sends_to s.target items ≡ true)
+          (λ s is. sent_in_text items s.target is) (sendings_at place (translation items).image input values cycles)
+          named.sendings;
+      packets = each_map (λ (p : Packet). Named items place.core (tree.sends_to p.target))
+          (λ (p : Packet). sends_to p.target items ≡ true)
+          (λ p is. sent_in_text items p.target is) (apart_at place (translation items).image input values
+          cycles).core.plain.interface.under_way named.packets;
     }

@@ -17,14 +17,17 @@ first_words initial fit word = by (nat_le 4 word)
     by true = each_index initial (word - 4) fit
     by false = omega arith
 
-laid_words : (at room : ℕ) (words : List ℕ) (under : ℕ → ℕ) → Each IsWord words → ((word : ℕ) → IsWord (under word)) → (word : ℕ) → IsWord (laid at room words under word)
-laid_words at room words under fit below word = by (nat_le at word && (nat_lt (word - at) room && nat_lt (word - at) (length words)))
+laid_words : (at room : ℕ) (words : List ℕ) (under : ℕ → ℕ) → Each IsWord words → ((word : ℕ) → IsWord (under word))
+    → (word : ℕ) → IsWord (laid at room words under word)
+laid_words at room words under fit below word =
+    by (nat_le at word && (nat_lt (word - at) room && nat_lt (word - at) (length words)))
   where
     by : (b : Bool) → IsWord (if b then slice_index words (word - at) else under word)
     by true = each_index words (word - at) fit
     by false = below word
 
-pub world_held : (u : PlainUnit) (place : Place) (input : List ℕ) (world : ℕ → ℕ) → Each IsWord u.initial → Each IsWord input → IsWorld world → HasWorld u place input world
+pub world_held : (u : PlainUnit) (place : Place) (input : List ℕ) (world : ℕ → ℕ) → Each IsWord u.initial
+    → Each IsWord input → IsWorld world → HasWorld u place input world
 world_held u place input world initial given words = record {
   scratch = λ word. let few : 0 < 2 ^ 32 = omega arith in few;
   comm = λ word. words _;

@@ -32,7 +32,8 @@ unfoldable iterated : Stmt → List Token
 iterated (Loop' bound head l body) = block_tokens body
 iterated s = []
 
-iterated_loop : (bound : Option Bound) (head : Head) (body : List Stmt) → iterated (Loop bound head body) ≡ body_tokens body
+iterated_loop : (bound : Option Bound) (head : Head) (body : List Stmt) → iterated (Loop bound head body)
+    ≡ body_tokens body
 unfolding stmt_tokens block_tokens iterated hidden-the_row-Stmt-0 hidden
 iterated_loop bound head [] = refl
 iterated_loop bound head (s ∷ body) = ap (λ ts. stmt_tokens s ++ ts) (iterated_loop bound head body)
@@ -40,7 +41,8 @@ iterated_loop bound head (s ∷ body) = ap (λ ts. stmt_tokens s ++ ts) (iterate
 pub loop_tokens : (bound : Option Bound) (head : Head) (body : List Stmt)
     → stmt_tokens (Loop bound head body) ≡ bound_tokens bound ++ (head_tokens head ++ braced (body_tokens body))
 unfolding stmt_tokens block_tokens iterated
-loop_tokens bound head body = ap (λ ts. bound_tokens bound ++ (head_tokens head ++ braced ts)) (iterated_loop bound head body)
+loop_tokens bound head body =
+    ap (λ ts. bound_tokens bound ++ (head_tokens head ++ braced ts)) (iterated_loop bound head body)
 
 -- the block of a list, by its row
 pub row_tokens : (body : List Stmt) → block_tokens (hidden-the_row-Stmt-0 body) ≡ body_tokens body
@@ -51,7 +53,8 @@ row_tokens (s ∷ body) = ap (λ ts. stmt_tokens s ++ ts) (row_tokens body)
 -- arms, and each but the first after `else`
 abbrev pub tokens_of_further : List Arm → List Token
 tokens_of_further [] = []
-tokens_of_further (a ∷ arms) = word keyword.Else ∷ (arm_tokens a.condition (body_tokens a.body) ++ tokens_of_further arms)
+tokens_of_further (a ∷ arms) =
+    word keyword.Else ∷ (arm_tokens a.condition (body_tokens a.body) ++ tokens_of_further arms)
 
 abbrev pub tokens_of_arms : List Arm → List Token
 tokens_of_arms [] = []
@@ -65,7 +68,8 @@ row_further : (arms : List Arm) → further_tokens (hidden-the_row-Arm-1 arms) �
 unfolding stmt_tokens block_tokens further_tokens hidden-the_row-Arm-1 hidden
 row_further [] = refl
 row_further (a ∷ arms) =
-    ap (λ ts. word keyword.Else ∷ (arm_tokens a.condition ts ++ further_tokens (hidden-the_row-Arm-1 arms))) (row_tokens a.body)
+    ap (λ ts. word keyword.Else ∷ (arm_tokens a.condition ts ++ further_tokens (hidden-the_row-Arm-1 arms)))
+    (row_tokens a.body)
     ∙ ap (λ ts. word keyword.Else ∷ (arm_tokens a.condition (body_tokens a.body) ++ ts)) (row_further arms)
 
 pub row_arms : (arms : List Arm) → arms_tokens (hidden-the_row-Arm-1 arms) ≡ tokens_of_arms arms
@@ -75,10 +79,12 @@ row_arms (a ∷ arms) =
     ap (λ ts. arm_tokens a.condition ts ++ further_tokens (hidden-the_row-Arm-1 arms)) (row_tokens a.body)
     ∙ ap (λ ts. arm_tokens a.condition (body_tokens a.body) ++ ts) (row_further arms)
 
-pub if_tokens : (arms : List Arm) (otherwise : Option (List Stmt)) → stmt_tokens (If arms otherwise) ≡ tokens_of_arms arms ++ tokens_otherwise otherwise
+pub if_tokens : (arms : List Arm) (otherwise : Option (List Stmt)) → stmt_tokens (If arms otherwise)
+    ≡ tokens_of_arms arms ++ tokens_otherwise otherwise
 unfolding stmt_tokens block_tokens arms_tokens otherwise_tokens
 if_tokens arms None = ap (λ ts. ts ++ []) (row_arms arms)
-if_tokens arms (Some body) = ap (λ ts. ts ++ word keyword.Else ∷ braced (block_tokens (hidden-the_row-Stmt-0 body))) (row_arms arms)
+if_tokens arms (Some body) =
+    ap (λ ts. ts ++ word keyword.Else ∷ braced (block_tokens (hidden-the_row-Stmt-0 body))) (row_arms arms)
     ∙ ap (λ ts. tokens_of_arms arms ++ word keyword.Else ∷ braced ts) (row_tokens body)
 
 -- ---- what fits
@@ -92,7 +98,8 @@ pub inner_fits : (body : List Stmt) → Each StmtFits body → StmtFits (Inner b
 unfolding StmtFits BlockFits
 inner_fits body h = row_fits body h
 
-pub loop_fits : (bound : Option Bound) (head : Head) (body : List Stmt) → HeadFits head → Each StmtFits body → StmtFits (Loop bound head body)
+pub loop_fits : (bound : Option Bound) (head : Head) (body : List Stmt) → HeadFits head → Each StmtFits body
+    → StmtFits (Loop bound head body)
 unfolding StmtFits BlockFits
 loop_fits bound head body a h = (a, row_fits body h)
 
@@ -112,7 +119,8 @@ first_arm : (a : Arm) (arms : List Arm) → has_arm (hidden-the_row-Arm-1 (a ∷
 unfolding hidden-the_row-Arm-1 hidden
 first_arm a arms = tt
 
-pub if_fits : (a : Arm) (arms : List Arm) (otherwise : Option (List Stmt)) → Each ArmFits (a ∷ arms) → OtherwiseFitting otherwise
+pub if_fits : (a : Arm) (arms : List Arm) (otherwise : Option (List Stmt)) → Each ArmFits (a ∷ arms)
+    → OtherwiseFitting otherwise
     → StmtFits (If (a ∷ arms) otherwise)
 unfolding StmtFits BlockFits ArmsFit OtherwiseFits
 if_fits a arms None h o = (first_arm a arms, row_arms_fit (a ∷ arms) h, tt)

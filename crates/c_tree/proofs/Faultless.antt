@@ -25,35 +25,45 @@ pub not_so : (so : Bool) (at : ℕ) (kind : CheckFault) → IsTrue (has_none (wh
 not_so true at kind none = absurd (cc)
 not_so false at kind none = refl
 
-pub in_items : (cores own : ℕ) (items : List PlainItem) → IsValid items cores own → IsTrue (has_none (items_faults cores own given 0 items))
-in_items cores own items valid = none_left (items_faults cores own given 0 items) (end_faults (sum_by item_size items) items) valid
+pub in_items : (cores own : ℕ) (items : List PlainItem) → IsValid items cores own
+    → IsTrue (has_none (items_faults cores own given 0 items))
+in_items cores own items valid =
+    none_left (items_faults cores own given 0 items) (end_faults (sum_by item_size items) items) valid
 
 -- ---- the weight and the words of a valid program
 
-pub not_past : (most words at : ℕ) (kind : CheckFault) → IsTrue (has_none (where_so (nat_lt most words) at kind)) → words ≤ most
+pub not_past : (most words at : ℕ) (kind : CheckFault) → IsTrue (has_none (where_so (nat_lt most words) at kind))
+    → words ≤ most
 not_past most words at kind none =
     let few = not_so (nat_lt most words) at kind none in
     grind (arith, nat_tests, few)
 
-pub task_fits : (cores own : ℕ) (items : List PlainItem) → IsValid items cores own → items_weight items ≤ MOST_TASK_WEIGHT
+pub task_fits : (cores own : ℕ) (items : List PlainItem) → IsValid items cores own → items_weight items
+    ≤ MOST_TASK_WEIGHT
 task_fits cores own items valid =
     let at = sum_by item_size items in
     let heavy = where_so (nat_lt MOST_TASK_WEIGHT (items_weight items)) at fault.Heavy in
     let data_ = where_so (nat_lt MOST_PRIVATE_WORDS (words_in false items)) at fault.Data in
-    let rest = where_so (nat_lt MOST_SCRATCH_WORDS (words_in true items)) at fault.Scratch ++ where_so (not (has_main items)) at fault.NoMain in
+    let rest = where_so (nat_lt MOST_SCRATCH_WORDS (words_in true items)) at fault.Scratch
+    ++ where_so (not (has_main items)) at fault.NoMain in
     not_past MOST_TASK_WEIGHT (items_weight items) at fault.Heavy
-    (none_left heavy (data_ ++ rest) (none_right (items_faults cores own given 0 items) (heavy ++ (data_ ++ rest)) valid))
+    (none_left heavy (data_ ++ rest) (none_right (items_faults cores own given 0 items)
+    (heavy ++ (data_ ++ rest)) valid))
 
-pub private_fits : (cores own : ℕ) (items : List PlainItem) → IsValid items cores own → words_in false items ≤ MOST_PRIVATE_WORDS
+pub private_fits : (cores own : ℕ) (items : List PlainItem) → IsValid items cores own → words_in false items
+    ≤ MOST_PRIVATE_WORDS
 private_fits cores own items valid =
     let at = sum_by item_size items in
     let heavy = where_so (nat_lt MOST_TASK_WEIGHT (items_weight items)) at fault.Heavy in
     let data_ = where_so (nat_lt MOST_PRIVATE_WORDS (words_in false items)) at fault.Data in
-    let rest = where_so (nat_lt MOST_SCRATCH_WORDS (words_in true items)) at fault.Scratch ++ where_so (not (has_main items)) at fault.NoMain in
+    let rest = where_so (nat_lt MOST_SCRATCH_WORDS (words_in true items)) at fault.Scratch
+    ++ where_so (not (has_main items)) at fault.NoMain in
     let ends = none_right (items_faults cores own given 0 items) (heavy ++ (data_ ++ rest)) valid in
-    not_past MOST_PRIVATE_WORDS (words_in false items) at fault.Data (none_left data_ rest (none_right heavy (data_ ++ rest) ends))
+    not_past MOST_PRIVATE_WORDS (words_in false items) at fault.Data
+    (none_left data_ rest (none_right heavy (data_ ++ rest) ends))
 
-pub scratch_fits : (cores own : ℕ) (items : List PlainItem) → IsValid items cores own → words_in true items ≤ MOST_SCRATCH_WORDS
+pub scratch_fits : (cores own : ℕ) (items : List PlainItem) → IsValid items cores own → words_in true items
+    ≤ MOST_SCRATCH_WORDS
 scratch_fits cores own items valid =
     let at = sum_by item_size items in
     let heavy = where_so (nat_lt MOST_TASK_WEIGHT (items_weight items)) at fault.Heavy in

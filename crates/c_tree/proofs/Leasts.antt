@@ -5,14 +5,16 @@ use Rattle.c_tree.specs.declared.checks.Fault.{Fault}
 use Rattle.c_tree.specs.Least.{is_before, least_of, least_with, lesser}
 use Rattle.c_tree.specs.Valid.{has_none}
 
-pub least_of_both : (least : Option Fault) (xs ys : List Fault) → least_with least (xs ++ ys) ≡ least_with (least_with least xs) ys
+pub least_of_both : (least : Option Fault) (xs ys : List Fault) → least_with least (xs ++ ys)
+    ≡ least_with (least_with least xs) ys
 least_of_both least [] ys = refl
 least_of_both least (x ∷ xs) ys = least_of_both (lesser least x) xs ys
 
 -- a least fault of something is some fault
 lesser_some : (least : Option Fault) (f : Fault) → IsSome (lesser least f)
 lesser_some None f = refl
-lesser_some (Some least) f = elim (is_before f least) as (λ b. IsSome (if b then Some f else Some least)) [ true ↦ refl | false ↦ refl ]
+lesser_some (Some least) f =
+    elim (is_before f least) as (λ b. IsSome (if b then Some f else Some least)) [ true ↦ refl | false ↦ refl ]
 
 still_some : (least : Option Fault) (faults : List Fault) → IsSome least → IsSome (least_with least faults)
 still_some least [] h = h

@@ -23,7 +23,8 @@ unfolding plain_expr plain_steps hidden-the_row-Step-0 hidden
 row_steps [] = refl
 row_steps (s ∷ steps) = ap (step s.op (plain_expr s.operand)) (row_steps steps)
 
-pub plain_chain : (level : ℕ) (b : Box Expr Global) (steps : List Step) → plain_expr (Chain level b steps) ≡ chain level (plain_expr b.value) (steps_of steps)
+pub plain_chain : (level : ℕ) (b : Box Expr Global) (steps : List Step) → plain_expr (Chain level b steps)
+    ≡ chain level (plain_expr b.value) (steps_of steps)
 unfolding plain_expr
 plain_chain level b steps = ap (chain level (plain_expr b.value)) (row_steps steps)
 
@@ -45,12 +46,15 @@ pub plain_inner : (body : List Stmt) → plain_stmt (Inner body) ≡ inner (bloc
 unfolding plain_stmt
 plain_inner body = ap inner (row_block body)
 
-pub plain_loop : (bound : Option Bound) (head : Head) (body : List Stmt) → plain_stmt (Loop bound head body) ≡ looped bound (plain_head head) (block_of body)
+pub plain_loop : (bound : Option Bound) (head : Head) (body : List Stmt) → plain_stmt (Loop bound head body)
+    ≡ looped bound (plain_head head) (block_of body)
 unfolding plain_stmt
 plain_loop bound head body = ap (looped bound (plain_head head)) (row_block body)
 
-pub plain_if : (arms : List Arm) (otherwise : Option (List Stmt)) → plain_stmt (If arms otherwise) ≡ chosen (arms_of arms) (otherwise_of otherwise)
+pub plain_if : (arms : List Arm) (otherwise : Option (List Stmt)) → plain_stmt (If arms otherwise)
+    ≡ chosen (arms_of arms) (otherwise_of otherwise)
 unfolding plain_stmt plain_otherwise
 plain_if arms None = ap (λ them. chosen them no_else) (row_arms arms)
 plain_if arms (Some body) =
-    ap (λ them. chosen them (or_else (plain_block (hidden-the_row-Stmt-0 body)))) (row_arms arms) ∙ ap (λ block. chosen (arms_of arms) (or_else block)) (row_block body)
+    ap (λ them. chosen them (or_else (plain_block (hidden-the_row-Stmt-0 body)))) (row_arms arms)
+    ∙ ap (λ block. chosen (arms_of arms) (or_else block)) (row_block body)

@@ -9,7 +9,8 @@ use Rattle.c_tree.specs.Sizes.{bound_size, head_size, stmt_size, block_size}
 use Rattle.c_tree.specs.Plains.{block_of}
 use Rattle.c_tree.proofs.Plains.{plain_inner, plain_loop}
 
-pub inner_sized : (s : Stmt) (body : List Stmt) → s ≡ Inner body → stmt_size (plain_stmt s) ≡ 2 + block_size (block_of body)
+pub inner_sized : (s : Stmt) (body : List Stmt) → s ≡ Inner body → stmt_size (plain_stmt s)
+    ≡ 2 + block_size (block_of body)
 unfolding stmt_size
 inner_sized s body is = ap (λ x. stmt_size (plain_stmt x)) is ∙ ap stmt_size (plain_inner body)
 

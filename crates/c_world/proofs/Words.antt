@@ -9,6 +9,8 @@ zeros : (n : ℕ) → slice_index (replicate n 0) ≡ (λ _. 0)
 zeros n = λ i word. zero_at n word i
 
 -- memories whose words are all 0 show a fresh world
-pub fresh_shown : (m : Memory) (n : ℕ) (sends : List Sending) → m.scratch.items ≡ replicate 2048 0 → m.comm.items ≡ replicate 512 0
-    → m.private.items ≡ replicate n 0 → m.shared.items ≡ replicate 4096 0 → m.overrun ≡ false → shown m sends ≡ fresh sends
+pub fresh_shown : (m : Memory) (n : ℕ) (sends : List Sending) → m.scratch.items ≡ replicate 2048 0 → m.comm.items
+    ≡ replicate 512 0
+    → m.private.items ≡ replicate n 0 → m.shared.items ≡ replicate 4096 0 → m.overrun ≡ false
+    → shown m sends ≡ fresh sends
 fresh_shown m n sends a b c d e = rw (a, b, c, d, e, zeros 2048, zeros 512, zeros n, zeros 4096) refl

@@ -15,7 +15,8 @@ module _ {A : Type 0} where
 
   module _ (f : A → ℕ) where
     -- the sum after a change at one place
-    pub sum-set : (xs : List A) (i : ℕ) (v w : A) → get_elem? xs i ≡ some v → sum_by f (set xs i w) + f v ≡ sum_by f xs + f w
+    pub sum-set : (xs : List A) (i : ℕ) (v w : A) → get_elem? xs i ≡ some v → sum_by f (set xs i w) + f v
+        ≡ sum_by f xs + f w
     sum-set [] i v w e = absurd (some-ne-none v (sym e))
     sum-set (x ∷ xs) zero v w e = omega (arith, sum_by-cons f x xs, sum_by-cons f w xs, ap f (some-injective x v e))
     sum-set (x ∷ xs) (suc i) v w e = omega (arith, sum_by-cons f x xs, sum_by-cons f x (set xs i w), sum-set xs i v w e)
@@ -27,12 +28,16 @@ module _ {A : Type 0} where
     term_le (x ∷ xs) (suc i) v e = omega (arith, sum_by-cons f x xs, term_le xs i v e)
 
     -- two terms are at most the sum
-    pub terms_le : (xs : List A) (i j : ℕ) (v w : A) → j ≢ i → get_elem? xs i ≡ some v → get_elem? xs j ≡ some w → f v + f w ≤ sum_by f xs
+    pub terms_le : (xs : List A) (i j : ℕ) (v w : A) → j ≢ i → get_elem? xs i ≡ some v → get_elem? xs j ≡ some w
+        → f v + f w ≤ sum_by f xs
     terms_le [] i j v w n e d = absurd (some-ne-none v (sym e))
     terms_le (x ∷ xs) zero zero v w n e d = absurd (n refl)
-    terms_le (x ∷ xs) zero (suc j) v w n e d = omega (arith, sum_by-cons f x xs, ap f (some-injective x v e), term_le xs j w d)
-    terms_le (x ∷ xs) (suc i) zero v w n e d = omega (arith, sum_by-cons f x xs, ap f (some-injective x w d), term_le xs i v e)
-    terms_le (x ∷ xs) (suc i) (suc j) v w n e d = omega (arith, sum_by-cons f x xs, terms_le xs i j v w (λ h. n (ap suc h)) e d)
+    terms_le (x ∷ xs) zero (suc j) v w n e d =
+        omega (arith, sum_by-cons f x xs, ap f (some-injective x v e), term_le xs j w d)
+    terms_le (x ∷ xs) (suc i) zero v w n e d =
+        omega (arith, sum_by-cons f x xs, ap f (some-injective x w d), term_le xs i v e)
+    terms_le (x ∷ xs) (suc i) (suc j) v w n e d =
+        omega (arith, sum_by-cons f x xs, terms_le xs i j v w (λ h. n (ap suc h)) e d)
 
     -- where the sum is 0, each term is
     pub none_counts : (xs : List A) → sum_by f xs ≡ 0 → Each (λ x. f x ≡ 0) xs
@@ -57,7 +62,13 @@ module _ {A : Type 0} where
     | inl none ↦
         let rest : sum_by f xs ≡ 1 = omega (arith, sum_by-cons f x xs, none) in
         let later = the_one f xs rest in
-        record { index = suc later.index; item = later.item; there = later.there; counts = later.counts; only = only_later f x xs later.index none later.only }
+        record {
+          index = suc later.index;
+          item = later.item;
+          there = later.there;
+          counts = later.counts;
+          only = only_later f x xs later.index none later.only;
+        }
     | inr some_one ↦
         let rest : sum_by f xs ≡ 0 = omega (arith, sum_by-cons f x xs) in
         let here : f x ≡ 1 = omega (arith, sum_by-cons f x xs) in
@@ -65,11 +76,13 @@ module _ {A : Type 0} where
   ]
     where
       -- no other place, where it is not the first
-      only_later : (f : A → ℕ) (x : A) (xs : List A) (i : ℕ) → f x ≡ 0 → ((j : ℕ) (y : A) → get_elem? xs j ≡ some y → 0 < f y → j ≡ i) → (j : ℕ) (y : A) → get_elem? (x ∷ xs) j ≡ some y → 0 < f y → j ≡ suc i
+      only_later : (f : A → ℕ) (x : A) (xs : List A) (i : ℕ) → f x ≡ 0 → ((j : ℕ) (y : A) → get_elem? xs j ≡ some y
+          → 0 < f y → j ≡ i) → (j : ℕ) (y : A) → get_elem? (x ∷ xs) j ≡ some y → 0 < f y → j ≡ suc i
       only_later f x xs i none only zero y at counts = absurd (omega (arith, ap f (some-injective x y at), none))
       only_later f x xs i none only (suc j) y at counts = ap suc (only j y at counts)
 
       -- no other place, where it is the first
-      only_first : (f : A → ℕ) (x : A) (xs : List A) → sum_by f xs ≡ 0 → (j : ℕ) (y : A) → get_elem? (x ∷ xs) j ≡ some y → 0 < f y → j ≡ zero
+      only_first : (f : A → ℕ) (x : A) (xs : List A) → sum_by f xs ≡ 0 → (j : ℕ) (y : A) → get_elem? (x ∷ xs) j ≡ some y
+          → 0 < f y → j ≡ zero
       only_first f x xs none zero y at counts = refl
       only_first f x xs none (suc j) y at counts = absurd (omega (arith, term_le f xs j y at, none))

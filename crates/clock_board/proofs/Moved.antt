@@ -33,7 +33,8 @@ not_counted core r none own = let one : is_of core r ≡ 1 = counts_own core r o
 
 -- a core's pass has one record
 pub in_given : (core : ℕ) (v : View) (r : Record) → v.holding ≡ Given r → in_view core v ≡ is_of core r
-in_given core v r e = ap (λ h. sum_by (is_of core) (records_of h)) e ∙ sum_by-cons (is_of core) r [] ∙ add-zero (is_of core r)
+in_given core v r e =
+    ap (λ h. sum_by (is_of core) (records_of h)) e ∙ sum_by-cons (is_of core) r [] ∙ add-zero (is_of core r)
 
 -- a core's pass is not spent
 pub given_is_live : (h : Holding) (r : Record) → h ≡ Given r → h ≢ Spent
@@ -41,7 +42,8 @@ given_is_live h r e f = cc
 
 -- what a step of the pass of core `core` has to show, which makes the words `words'` of `words`, the
 -- operations made `done'` of `done` and the record r'
-pub record Moves (n : ℕ) (all : List Operation) (shared core : ℕ) (words words' : List ℕ) (done done' rest' : List Operation) (r' : Record) : Type 0 where
+pub record Moves (n : ℕ) (all : List Operation) (shared core : ℕ) (words words' : List ℕ)
+    (done done' rest' : List Operation) (r' : Record) : Type 0 where
   pub wide : length words' ≡ length words
   pub order : all ≡ done' ++ rest'
   pub claims : (c : ℕ) → c < n → claim n words' c ≡ claim n words c
@@ -54,7 +56,8 @@ pub record Moves (n : ℕ) (all : List Operation) (shared core : ℕ) (words wor
   pub passed : Each (λ (o : Operation). (d : ℕ) → d < n → d ≢ o.stamp % n → o.stamp ≤ clock words' d) done'
   pub cells : (w : ℕ) → w < shared → cell n words' w ≡ stored_last w done' 0
 
-module _ (n : ℕ) (all : List Operation) (asked : ℕ → List ℕ → List Operation) (words : List ℕ) (views : List View) (k : Kept n all asked words views) (id : ℕ) (v : View) (r : Record) (at : get_elem? views id ≡ some v)
+module _ (n : ℕ) (all : List Operation) (asked : ℕ → List ℕ → List Operation) (words : List ℕ) (views : List View)
+    (k : Kept n all asked words views) (id : ℕ) (v : View) (r : Record) (at : get_elem? views id ≡ some v)
     (is : v.holding ≡ Given r) where
   -- the pass's record is true
   pub mine_is_true : IsTrueRecord n words k.done r
@@ -64,16 +67,34 @@ module _ (n : ℕ) (all : List Operation) (asked : ℕ → List ℕ → List Ope
   pub is_claimed : claim n words r.core ≡ 1
   is_claimed =
       let c = k.claims r.core mine_is_true.among in
-      omega (arith, c.bit, c.one, term_le (in_view r.core) views id v at, in_given r.core v r is, counts_own r.core r refl)
+      omega (
+        arith,
+        c.bit,
+        c.one,
+        term_le (in_view r.core) views id v at,
+        in_given r.core v r is,
+        counts_own r.core r refl,
+      )
 
   -- no other view has a record of its core
-  pub alone : (j : ℕ) (w : View) → j ≢ id → get_elem? views j ≡ some w → Each (λ r'. r'.core ≢ r.core) (records_of w.holding)
+  pub alone : (j : ℕ) (w : View) → j ≢ id → get_elem? views j ≡ some w
+      → Each (λ r'. r'.core ≢ r.core) (records_of w.holding)
   alone j w away there =
       let c = k.claims r.core mine_is_true.among in
-      let none : in_view r.core w ≡ 0 = omega (arith, c.bit, c.one, terms_le (in_view r.core) views id j v w away at there, in_given r.core v r is, counts_own r.core r refl) in
-      each_map (λ r'. is_of r.core r' ≡ 0) (λ r'. r'.core ≢ r.core) (λ r' z. not_counted r.core r' z) (records_of w.holding) (none_counts (is_of r.core) (records_of w.holding) none)
+      let none : in_view r.core w ≡ 0 = omega (
+        arith,
+        c.bit,
+        c.one,
+        terms_le (in_view r.core) views id j v w away at
+            there,
+        in_given r.core v r is,
+        counts_own r.core r refl,
+      ) in
+      each_map (λ r'. is_of r.core r' ≡ 0) (λ r'. r'.core ≢ r.core) (λ r' z. not_counted r.core r' z)
+      (records_of w.holding) (none_counts (is_of r.core) (records_of w.holding) none)
 
-  module _ (words' : List ℕ) (done' rest' : List Operation) (r' : Record) (m : Moves n all k.shared r.core words words' k.done done' rest' r') where
+  module _ (words' : List ℕ) (done' rest' : List Operation) (r' : Record)
+      (m : Moves n all k.shared r.core words words' k.done done' rest' r') where
     -- another core's record stays true
     stays_true : (q : Record) → IsTrueRecord n words k.done q → q.core ≢ r.core → IsTrueRecord n words' done' q
     stays_true q t other = record {
@@ -81,11 +102,13 @@ module _ (n : ℕ) (all : List Operation) (asked : ℕ → List ℕ → List Ope
       made = t.made ∙ sym (m.parts q.core t.among other);
       shows = m.others q.core t.among other ∙ t.shows;
       climbs = t.climbs;
-      looks = each_map (λ (l : Look). (l.core < n) × (l.seen ≤ clock words l.core)) (λ (l : Look). (l.core < n) × (l.seen ≤ clock words' l.core)) (λ l h. (h.0, omega (arith, h.1, m.rises l.core h.0))) q.looks t.looks;
+      looks = each_map (λ (l : Look). (l.core < n) × (l.seen ≤ clock words l.core)) (λ (l : Look). (l.core < n)
+          × (l.seen ≤ clock words' l.core)) (λ l h. (h.0, omega (arith, h.1, m.rises l.core h.0))) q.looks t.looks;
     }
 
     -- all views stay true
-    views_moved : (j : ℕ) (w : View) → get_elem? (set views id (given v r')) j ≡ some w → IsTrueView n all words' done' w
+    views_moved : (j : ℕ) (w : View) → get_elem? (set views id (given v r')) j ≡ some w
+        → IsTrueView n all words' done' w
     views_moved j w there = ⊎_elim
         (λ t. let mine : IsTrueView n all words' done' (given v r') = record {
           cores = λ _. (k.views id v at).cores (given_is_live v.holding r is);
@@ -95,7 +118,8 @@ module _ (n : ℕ) (all : List Operation) (asked : ℕ → List ℕ → List Ope
         (λ t. let before : IsTrueView n all words k.done w = k.views j w t.1 in record {
           cores = before.cores;
           course = before.course;
-          records = each_zip (IsTrueRecord n words k.done) (λ q. q.core ≢ r.core) (IsTrueRecord n words' done') stays_true (records_of w.holding) before.records (alone j w t.0 t.1);
+          records = each_zip (IsTrueRecord n words k.done) (λ q. q.core ≢ r.core) (IsTrueRecord n words' done')
+              stays_true (records_of w.holding) before.records (alone j w t.0 t.1);
         })
         (at_set views id j (given v r') w there)
 
@@ -106,13 +130,31 @@ module _ (n : ℕ) (all : List Operation) (asked : ℕ → List ℕ → List Ope
         let same : is_of core r' ≡ is_of core r = ap (λ d. is_of core (record r { core = d })) m.own in
         record {
           bit = omega (arith, c.bit, m.claims core among);
-          one = omega (arith, c.one, m.claims core among, sum-set (in_view core) views id v (given v r') at, in_given core v r is, in_given core (given v r') r' refl, same);
+          one = omega (
+            arith,
+            c.one,
+            m.claims core among,
+            sum-set (in_view core) views id v (given v r') at,
+            in_given core v r is,
+            in_given core (given v r') r' refl,
+            same,
+          );
           idle_clock = λ none. elim (cases_eq core r.core) [
-            | inl own ↦ absurd (let one : claim n words core ≡ 1 = ap (claim n words) own ∙ is_claimed in omega (arith, one, none, m.claims core among))
+            | inl own ↦ absurd (let one : claim n words core ≡ 1 = ap (claim n words) own ∙ is_claimed in omega (
+              arith,
+              one,
+              none,
+              m.claims core among,
+            ))
             | inr other ↦ m.others core among other ∙ c.idle_clock (sym (m.claims core among) ∙ none)
           ];
           idle_made = λ none. elim (cases_eq core r.core) [
-            | inl own ↦ absurd (let one : claim n words core ≡ 1 = ap (claim n words) own ∙ is_claimed in omega (arith, one, none, m.claims core among))
+            | inl own ↦ absurd (let one : claim n words core ≡ 1 = ap (claim n words) own ∙ is_claimed in omega (
+              arith,
+              one,
+              none,
+              m.claims core among,
+            ))
             | inr other ↦ m.parts core among other ∙ c.idle_made (sym (m.claims core among) ∙ none)
           ];
         }

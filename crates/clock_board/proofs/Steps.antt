@@ -28,24 +28,29 @@ use Rattle.clock_board.proofs.Moved.{Moves, mine_is_true, given_is_live}
 
 -- the clock shows the stamp that was published last
 pub clock-push : (published : List ℕ) (stamp : ℕ) → clock_of (published ++ stamp ∷ []) ≡ stamp
-clock-push published stamp = get_or_push published stamp 0 (length (published ++ stamp ∷ []) - 1) (omega (arith, length_push published stamp))
+clock-push published stamp =
+    get_or_push published stamp 0 (length (published ++ stamp ∷ []) - 1) (omega (arith, length_push published stamp))
 
 -- a stamp at or past the clock goes on from what was published
-pub climbs_on : (published : List ℕ) (stamp : ℕ) → IsNonDecreasing published → clock_of published ≤ stamp → IsNonDecreasing (published ++ stamp ∷ [])
+pub climbs_on : (published : List ℕ) (stamp : ℕ) → IsNonDecreasing published → clock_of published ≤ stamp
+    → IsNonDecreasing (published ++ stamp ∷ [])
 climbs_on published stamp climbs late = IsNonDecreasingBy-push (λ x. x) published stamp climbs (λ d some.
-    let e : get_or published (length published - 1) d ≡ clock_of published = get_or_default published (length published - 1) d 0 (omega arith) in
+    let e : get_or published (length published - 1) d ≡ clock_of published =
+    get_or_default published (length published - 1) d 0 (omega arith) in
     omega (arith, e, late))
 
 module _ (n : ℕ) (all : List Operation) (asked : ℕ → List ℕ → List Operation) where
   -- ---- of the words and the views, where the view of number id is a core's with the record r
 
-  module _ (words : List ℕ) (views : List View) (k : Kept n all asked words views) (id : ℕ) (v : View) (r : Record) (at : get_elem? views id ≡ some v) (is : v.holding ≡ Given r) where
+  module _ (words : List ℕ) (views : List View) (k : Kept n all asked words views) (id : ℕ) (v : View) (r : Record)
+      (at : get_elem? views id ≡ some v) (is : v.holding ≡ Given r) where
     -- the pass's record is true
     mine : IsTrueRecord n words k.done r
     mine = mine_is_true n all asked words views k id v r at is
 
     -- a look changes no word
-    pub look_moves : (d : ℕ) → d < n → Moves n all k.shared r.core words words k.done k.done k.rest (with_look r d (clock words d))
+    pub look_moves : (d : ℕ) → d < n → Moves n all k.shared r.core words words k.done k.done k.rest (with_look r d
+        (clock words d))
     look_moves d among = record {
       wide = refl;
       order = k.order;
@@ -59,7 +64,8 @@ module _ (n : ℕ) (all : List Operation) (asked : ℕ → List ℕ → List Ope
         made = mine.made;
         shows = mine.shows;
         climbs = mine.climbs;
-        looks = each-append (λ (l : Look). (l.core < n) × (l.seen ≤ clock words l.core)) r.looks (record { core = d; seen = clock words d } ∷ []) mine.looks ((among, omega arith), tt);
+        looks = each-append (λ (l : Look). (l.core < n) × (l.seen ≤ clock words l.core)) r.looks
+            (record { core = d; seen = clock words d } ∷ []) mine.looks ((among, omega arith), tt);
       };
       clocks = k.clocks;
       passed = k.passed;
@@ -67,7 +73,8 @@ module _ (n : ℕ) (all : List Operation) (asked : ℕ → List ℕ → List Ope
     }
 
     -- a published stamp is at or past the clock, and not past what is left
-    module _ (stamp : ℕ) (late : clock_of r.published ≤ stamp) (left : Each (λ (o : Operation). stamp ≤ o.stamp) (operations_of n r.core k.rest)) where
+    module _ (stamp : ℕ) (late : clock_of r.published ≤ stamp)
+        (left : Each (λ (o : Operation). stamp ≤ o.stamp) (operations_of n r.core k.rest)) where
       -- its clock shows the stamp
       shows_stamp : clock (set words r.core stamp) r.core ≡ stamp
       shows_stamp = get_or-set_same words r.core stamp 0 (omega (arith, mine.among, k.wide))
@@ -86,14 +93,17 @@ module _ (n : ℕ) (all : List Operation) (asked : ℕ → List ℕ → List Ope
       ]
 
       -- no clock is past what is left
-      not_past : (o : Operation) → clock words (o.stamp % n) ≤ o.stamp → (o.stamp % n ≡ r.core → stamp ≤ o.stamp) → clock (set words r.core stamp) (o.stamp % n) ≤ o.stamp
+      not_past : (o : Operation) → clock words (o.stamp % n) ≤ o.stamp → (o.stamp % n ≡ r.core → stamp ≤ o.stamp)
+          → clock (set words r.core stamp) (o.stamp % n) ≤ o.stamp
       not_past o before own = elim (cases_eq (o.stamp % n) r.core) [
-        | inl e ↦ let f : clock (set words r.core stamp) (o.stamp % n) ≡ stamp = ap (clock (set words r.core stamp)) e ∙ shows_stamp in omega (arith, f, own e)
+        | inl e ↦ let f : clock (set words r.core stamp) (o.stamp % n) ≡ stamp =
+            ap (clock (set words r.core stamp)) e ∙ shows_stamp in omega (arith, f, own e)
         | inr e ↦ omega (arith, before, shows_others (o.stamp % n) e)
       ]
 
       -- publishing fits the rule
-      pub publish_moves : Moves n all k.shared r.core words (set words r.core stamp) k.done k.done k.rest (with_stamp r stamp)
+      pub publish_moves : Moves n all k.shared r.core words (set words r.core stamp) k.done k.done k.rest
+          (with_stamp r stamp)
       publish_moves = record {
         wide = length-set words r.core stamp;
         order = k.order;
@@ -107,11 +117,15 @@ module _ (n : ℕ) (all : List Operation) (asked : ℕ → List ℕ → List Ope
           made = mine.made;
           shows = shows_stamp ∙ sym (clock-push r.published stamp);
           climbs = climbs_on r.published stamp mine.climbs late;
-          looks = each_map (λ (l : Look). (l.core < n) × (l.seen ≤ clock words l.core)) (λ (l : Look). (l.core < n) × (l.seen ≤ clock (set words r.core stamp) l.core)) (λ l h. (h.0, omega (arith, h.1, rises_to l.core))) r.looks mine.looks;
+          looks = each_map (λ (l : Look). (l.core < n) × (l.seen ≤ clock words l.core)) (λ (l : Look). (l.core < n)
+              × (l.seen ≤ clock (set words r.core stamp) l.core)) (λ l h. (h.0, omega (arith, h.1, rises_to l.core)))
+              r.looks mine.looks;
         };
-        clocks = each_zip (λ (o : Operation). clock words (o.stamp % n) ≤ o.stamp) (λ (o : Operation). o.stamp % n ≡ r.core → stamp ≤ o.stamp) (λ (o : Operation). clock (set words r.core stamp) (o.stamp % n) ≤ o.stamp)
+        clocks = each_zip (λ (o : Operation). clock words (o.stamp % n) ≤ o.stamp) (λ (o : Operation). o.stamp % n
+            ≡ r.core → stamp ≤ o.stamp) (λ (o : Operation). clock (set words r.core stamp) (o.stamp % n) ≤ o.stamp)
             not_past k.rest k.clocks (each_of_core n r.core (λ o. stamp ≤ o.stamp) k.rest left);
-        passed = each_map (λ (o : Operation). (d : ℕ) → d < n → d ≢ o.stamp % n → o.stamp ≤ clock words d) (λ (o : Operation). (d : ℕ) → d < n → d ≢ o.stamp % n → o.stamp ≤ clock (set words r.core stamp) d)
+        passed = each_map (λ (o : Operation). (d : ℕ) → d < n → d ≢ o.stamp % n → o.stamp ≤ clock words d)
+            (λ (o : Operation). (d : ℕ) → d < n → d ≢ o.stamp % n → o.stamp ≤ clock (set words r.core stamp) d)
             (λ o h d among other. omega (arith, h d among other, rises_to d)) k.done k.passed;
         cells = λ w h. get_or-set_other words r.core (n + n + w) stamp 0 (omega (arith, mine.among)) ∙ k.cells w h;
       }
@@ -121,17 +135,20 @@ module _ (n : ℕ) (all : List Operation) (asked : ℕ → List ℕ → List Ope
     left_here =
         let live = given_is_live v.holding r is in
         let seen = k.views id v at in
-        (λ i. drop (length r.made) (operations_of (seen.cores live i) r.core (seen.course live i))) ∙ left_is_rest n r.core all k.done k.rest r.made k.order mine.made
+        (λ i. drop (length r.made) (operations_of (seen.cores live i) r.core (seen.course live i)))
+        ∙ left_is_rest n r.core all k.done k.rest r.made k.order mine.made
 
     -- the operation that the core has to make next is the next of all
-    module _ (o : Operation) (left : List Operation) (next : todo (given v r) ≡ o ∷ left) (seen : (d : ℕ) → d < n → d ≢ r.core → o.stamp ≤ greatest d r.looks) where
+    module _ (o : Operation) (left : List Operation) (next : todo (given v r) ≡ o ∷ left)
+        (seen : (d : ℕ) → d < n → d ≢ r.core → o.stamp ≤ greatest d r.looks) where
       -- the other clocks are at or past its stamp
       pub behind : (d : ℕ) → d < n → d ≢ r.core → o.stamp ≤ clock words d
       behind d among other = omega (arith, seen d among other, greatest_le n words d r.looks mine.looks)
 
       -- it is the first of the rest
       pub first : IsFirstOf n r.core o left k.rest
-      first = is_next n r.core words k.rest left o k.course.some_core (rising_rest k.done k.rest (subst Rising k.order k.course.rising)) k.clocks (sym left_here ∙ next) behind
+      first = is_next n r.core words k.rest left o k.course.some_core
+          (rising_rest k.done k.rest (subst Rising k.order k.course.rising)) k.clocks (sym left_here ∙ next) behind
 
       -- it follows what was made
       order_here : all ≡ k.done ++ o ∷ first.later
@@ -139,19 +156,22 @@ module _ (n : ℕ) (all : List Operation) (asked : ℕ → List ℕ → List Ope
 
       -- it names a shared word and a value of 32 bits
       pub fits_here : Fits k.shared o
-      fits_here = (each_rest (Fits k.shared) k.done (o ∷ first.later) (subst (Each (Fits k.shared)) order_here k.course.fits)).0
+      fits_here = (each_rest (Fits k.shared) k.done (o ∷ first.later)
+          (subst (Each (Fits k.shared)) order_here k.course.fits)).0
 
       -- its load has what was stored last
       pub reads_here : o.act.write ≡ false → o.act.value ≡ stored_last o.act.word k.done 0
       reads_here = reads_at [] k.done first.later o (subst (Reads []) order_here k.course.reads)
 
       -- making it, where clocks and claims stay
-      pub make_moves : (words' : List ℕ) → length words' ≡ length words → ((c : ℕ) → c < n + n → get_or words' c 0 ≡ get_or words c 0) → ((w : ℕ) → w < k.shared → cell n words' w ≡ stored_last w (k.done ++ o ∷ []) 0)
+      pub make_moves : (words' : List ℕ) → length words' ≡ length words → ((c : ℕ) → c < n + n → get_or words' c 0
+          ≡ get_or words c 0) → ((w : ℕ) → w < k.shared → cell n words' w ≡ stored_last w (k.done ++ o ∷ []) 0)
           → Moves n all k.shared r.core words words' k.done (k.done ++ o ∷ []) first.later (with_operation r o)
       make_moves words' wide same cells =
           let level = λ (c : ℕ) (h : c < n). same c (omega (arith, h)) in
           let known = λ (c : ℕ) (h : c < n). let e : clock words' c ≡ clock words c = level c h in e in
-          let rest_clocks : Each (λ (q : Operation). clock words (q.stamp % n) ≤ q.stamp) (o ∷ first.later) = subst (Each (λ (q : Operation). clock words (q.stamp % n) ≤ q.stamp)) first.whole k.clocks in
+          let rest_clocks : Each (λ (q : Operation). clock words (q.stamp % n) ≤ q.stamp) (o ∷ first.later) =
+          subst (Each (λ (q : Operation). clock words (q.stamp % n) ≤ q.stamp)) first.whole k.clocks in
           record {
             wide = wide;
             order = order_here ∙ sym (append_assoc k.done (o ∷ []) first.later);
@@ -165,12 +185,18 @@ module _ (n : ℕ) (all : List Operation) (asked : ℕ → List ℕ → List Ope
               made = ap (λ l. l ++ o ∷ []) mine.made ∙ sym (operations_of-push n r.core k.done o first.own);
               shows = known r.core mine.among ∙ mine.shows;
               climbs = mine.climbs;
-              looks = each_map (λ (l : Look). (l.core < n) × (l.seen ≤ clock words l.core)) (λ (l : Look). (l.core < n) × (l.seen ≤ clock words' l.core)) (λ l h. (h.0, omega (arith, h.1, known l.core h.0))) r.looks mine.looks;
+              looks = each_map (λ (l : Look). (l.core < n) × (l.seen ≤ clock words l.core)) (λ (l : Look). (l.core < n)
+                  × (l.seen ≤ clock words' l.core)) (λ l h. (h.0, omega (arith, h.1, known l.core h.0)))
+                  r.looks mine.looks;
             };
-            clocks = each_map (λ (q : Operation). clock words (q.stamp % n) ≤ q.stamp) (λ (q : Operation). clock words' (q.stamp % n) ≤ q.stamp)
-                (λ q h. omega (arith, h, known (q.stamp % n) (mod_below q.stamp n k.course.some_core))) first.later rest_clocks.1;
-            passed = each-append (λ (q : Operation). (d : ℕ) → d < n → d ≢ q.stamp % n → q.stamp ≤ clock words' d) k.done (o ∷ [])
-                (each_map (λ (q : Operation). (d : ℕ) → d < n → d ≢ q.stamp % n → q.stamp ≤ clock words d) (λ (q : Operation). (d : ℕ) → d < n → d ≢ q.stamp % n → q.stamp ≤ clock words' d)
+            clocks = each_map (λ (q : Operation). clock words (q.stamp % n) ≤ q.stamp)
+                (λ (q : Operation). clock words' (q.stamp % n) ≤ q.stamp)
+                (λ q h. omega (arith, h, known (q.stamp % n) (mod_below q.stamp n k.course.some_core)))
+                first.later rest_clocks.1;
+            passed = each-append (λ (q : Operation). (d : ℕ) → d < n → d ≢ q.stamp % n → q.stamp ≤ clock words' d)
+                k.done (o ∷ [])
+                (each_map (λ (q : Operation). (d : ℕ) → d < n → d ≢ q.stamp % n → q.stamp ≤ clock words d)
+                (λ (q : Operation). (d : ℕ) → d < n → d ≢ q.stamp % n → q.stamp ≤ clock words' d)
                 (λ q h d among other. omega (arith, h d among other, known d among)) k.done k.passed)
                 (λ d among other. omega (arith, behind d among (λ e. other (e ∙ sym first.own)), known d among), tt);
             cells = cells;

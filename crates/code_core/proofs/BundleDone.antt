@@ -31,7 +31,7 @@ use Rattle.core_pace.specs.Spans.{IsSlotted}
 use Rattle.core_pace.proofs.OwnActs.{running_status}
 use Rattle.core_pace.specs.Run.{done_with}
 use Rattle.core_pace.proofs.Listed.{next_bundles}
-use Rattle.core_pace.proofs.Onward.{GoesOnward, goes_onward, IsBehind, is_behind}
+use Rattle.core_pace.proofs.Onward.{GoesOnward, goes_onward, IsAfter, is_after}
 use Rattle.sp_shape.specs.Pointers.{pointers_of}
 use Rattle.sp_shape.specs.Run as run
 use Rattle.sp_shape.specs.Run.{Run, first_load, other_loads, effected, late}
@@ -45,7 +45,7 @@ use Rattle.code_core.specs.Sound.{IsSound}
 use Rattle.code_core.proofs.Effects.{run_stack, stack_held, held_like, ports_held}
 use Rattle.code_core.proofs.Outcome.{regs_with, port_with, did, Given, Outcome, outcome_of_both, outcome}
 use Rattle.code_core.proofs.Faults.{sound_passes}
-use Rattle.code_core.proofs.Landing.{KeepsPending, landed_pending, waits_on, StartsBehind, Meets, LiesBy, lands_as, ends_there}
+use Rattle.code_core.proofs.Landing.{KeepsPending, landed_pending, waits_on, StartsAfter, Meets, LiesBy, lands_as, ends_there}
 use Rattle.code_core.proofs.Settled.{LeavesBy, Done, SettlesBy, acting_by, all_settles_by, OfTask, rests_settles}
 
 -- ---- what a run has after a bundle
@@ -56,10 +56,12 @@ IsTaken (effect.Load mem.S width rd address) m value = value ≡ m.stack (m.st +
 IsTaken (effect.Load space width rd address) m value = first_load m.loads ≡ value
 IsTaken _ m value = Unit {0}
 
-effected_regs : (e : Effect) (m : Run) (value : ℕ) → IsTaken e m value → (effected by_stack e m).regs ≡ regs_with e value m.regs
+effected_regs : (e : Effect) (m : Run) (value : ℕ) → IsTaken e m value → (effected by_stack e m).regs
+    ≡ regs_with e value m.regs
 effected_regs effect.Nothing m value t = refl
 effected_regs (effect.Flow kind) m value t = refl
-effected_regs (effect.Load mem.S width rd address) m value t = ap (λ v. arrived rd (picked width address v) m.regs) (sym t)
+effected_regs (effect.Load mem.S width rd address) m value t =
+    ap (λ v. arrived rd (picked width address v) m.regs) (sym t)
 effected_regs (effect.Load _ width rd address) m value t = ap (λ v. arrived rd (picked width address v) m.regs) t
 effected_regs (effect.Store mem.S width address value') m value t = refl
 effected_regs (effect.Store mem.L width address value') m value t = refl
@@ -70,7 +72,8 @@ effected_regs (effect.StackOp Sens count) m value t = refl
 effected_regs (effect.StackOp Sfree count) m value t = refl
 
 -- a run with the same stack
-pub same_stack : (m t : Run) (x : Plain) → t.st ≡ m.st → t.ss ≡ m.ss → t.stack ≡ m.stack → HoldsStack m x.stack x.private → HoldsStack t x.stack x.private
+pub same_stack : (m t : Run) (x : Plain) → t.st ≡ m.st → t.ss ≡ m.ss → t.stack ≡ m.stack
+    → HoldsStack m x.stack x.private → HoldsStack t x.stack x.private
 same_stack m t x st ss stack h = record {
   is_stack = h.is_stack;
   st = st ∙ h.st;
@@ -79,20 +82,31 @@ same_stack m t x st ss stack h = record {
   spilled = λ a past below. h.spilled a past below ∙ ap (λ f. f a) (sym stack);
 }
 
-effected_stack : (e : Effect) (m : Run) (x : Plain) → HoldsStack (run_stack e m) x.stack x.private → HoldsStack (effected by_stack e m) x.stack x.private
+effected_stack : (e : Effect) (m : Run) (x : Plain) → HoldsStack (run_stack e m) x.stack x.private
+    → HoldsStack (effected by_stack e m) x.stack x.private
 effected_stack effect.Nothing m x h = h
-effected_stack (effect.Load mem.S width rd address) m x h = same_stack m (effected by_stack (effect.Load mem.S width rd address) m) x refl refl refl h
-effected_stack (effect.Load mem.L width rd address) m x h = same_stack m (effected by_stack (effect.Load mem.L width rd address) m) x refl refl refl h
-effected_stack (effect.Load mem.C width rd address) m x h = same_stack m (effected by_stack (effect.Load mem.C width rd address) m) x refl refl refl h
-effected_stack (effect.Load mem.M width rd address) m x h = same_stack m (effected by_stack (effect.Load mem.M width rd address) m) x refl refl refl h
-effected_stack (effect.Store mem.S width address value) m x h = same_stack (run.stored mem.S width address value m) (effected by_stack (effect.Store mem.S width address value) m) x refl refl refl h
-effected_stack (effect.StackOp Sres count) m x h = same_stack (run.stacked Sres count m) (effected by_stack (effect.StackOp Sres count) m) x refl refl refl h
-effected_stack (effect.StackOp Sens count) m x h = same_stack (run.stacked Sens count m) (effected by_stack (effect.StackOp Sens count) m) x refl refl refl h
-effected_stack (effect.StackOp Sfree count) m x h = same_stack (run.stacked Sfree count m) (effected by_stack (effect.StackOp Sfree count) m) x refl refl refl h
+effected_stack (effect.Load mem.S width rd address) m x h =
+    same_stack m (effected by_stack (effect.Load mem.S width rd address) m) x refl refl refl h
+effected_stack (effect.Load mem.L width rd address) m x h =
+    same_stack m (effected by_stack (effect.Load mem.L width rd address) m) x refl refl refl h
+effected_stack (effect.Load mem.C width rd address) m x h =
+    same_stack m (effected by_stack (effect.Load mem.C width rd address) m) x refl refl refl h
+effected_stack (effect.Load mem.M width rd address) m x h =
+    same_stack m (effected by_stack (effect.Load mem.M width rd address) m) x refl refl refl h
+effected_stack (effect.Store mem.S width address value) m x h =
+    same_stack (run.stored mem.S width address value m) (effected by_stack (effect.Store mem.S width address value) m) x
+    refl refl refl h
+effected_stack (effect.StackOp Sres count) m x h =
+    same_stack (run.stacked Sres count m) (effected by_stack (effect.StackOp Sres count) m) x refl refl refl h
+effected_stack (effect.StackOp Sens count) m x h =
+    same_stack (run.stacked Sens count m) (effected by_stack (effect.StackOp Sens count) m) x refl refl refl h
+effected_stack (effect.StackOp Sfree count) m x h =
+    same_stack (run.stacked Sfree count m) (effected by_stack (effect.StackOp Sfree count) m) x refl refl refl h
 effected_stack other m x h = same_stack m (effected by_stack other m) x refl refl refl h
 
 -- the loads that are left
-effected_loads : (e : Effect) (m : Run) (regs : Registers) (rest : List ℕ) → m.loads ≡ given_by e regs ++ rest → (effected by_stack e m).loads ≡ rest
+effected_loads : (e : Effect) (m : Run) (regs : Registers) (rest : List ℕ) → m.loads ≡ given_by e regs ++ rest
+    → (effected by_stack e m).loads ≡ rest
 effected_loads effect.Nothing m regs rest is = is
 effected_loads (effect.Flow kind) m regs rest is = is
 effected_loads (effect.Load mem.S width rd address) m regs rest is = ap other_loads is
@@ -106,35 +120,54 @@ effected_loads (effect.StackOp Sens count) m regs rest is = is
 effected_loads (effect.StackOp Sfree count) m regs rest is = is
 
 -- a load gives the value that is then pending
-word_taken : (width : Width) (rd address value : ℕ) (loads rest : List ℕ) (regs regs' old : Registers) → width ≡ load.Word → loads ≡ pending_value regs'.pending ∷ rest → regs'.pending ≡ regs.pending → regs ≡ arrived rd (picked width address value) old
+word_taken : (width : Width) (rd address value : ℕ) (loads rest : List ℕ) (regs regs' old : Registers) → width
+    ≡ load.Word → loads ≡ pending_value regs'.pending ∷ rest → regs'.pending ≡ regs.pending → regs
+    ≡ arrived rd (picked width address value) old
     → first_load loads ≡ value
 word_taken width rd address value loads rest regs regs' old is list same came =
-    ap first_load list ∙ ap pending_value same ∙ ap (λ (r : Registers). pending_value r.pending) came ∙ ap (λ w. picked w address value) is
+    ap first_load list ∙ ap pending_value same ∙ ap (λ (r : Registers). pending_value r.pending) came
+    ∙ ap (λ w. picked w address value) is
 
-taken_so : (site : Site) (e : Effect) (m : Run) (d : Plain) (value : ℕ) (came regs : Registers) (rest : List ℕ) → IsSound site e (pointers_of m) m.memory → HoldsStack m d.stack d.private → Given e d value
-    → came ≡ regs_with e value d.regs → regs.pending ≡ came.pending → m.loads ≡ given_by e regs ++ rest → IsTaken e m value
-taken_so site (effect.Load mem.S width rd address) m d value came regs rest s h given is same list = given ∙ h.held (address / 4) (omega (arith, s.1, h.st, h.ss, h.is_stack))
-taken_so site (effect.Load _ width rd address) m d value came regs rest s h given is same list = word_taken width rd address value m.loads rest came regs d.regs s.0 list same is
+taken_so : (site : Site) (e : Effect) (m : Run) (d : Plain) (value : ℕ) (came regs : Registers) (rest : List ℕ)
+    → IsSound site e (pointers_of m) m.memory → HoldsStack m d.stack d.private → Given e d value
+    → came ≡ regs_with e value d.regs → regs.pending ≡ came.pending → m.loads ≡ given_by e regs ++ rest
+    → IsTaken e m value
+taken_so site (effect.Load mem.S width rd address) m d value came regs rest s h given is same list =
+    given ∙ h.held (address / 4) (omega (arith, s.1, h.st, h.ss, h.is_stack))
+taken_so site (effect.Load _ width rd address) m d value came regs rest s h given is same list =
+    word_taken width rd address value m.loads rest came regs d.regs s.0 list same is
 taken_so site (effect.Store mem.S width address stored) m d value came regs rest s h given is same list = tt
 taken_so site (effect.Store _ width address stored) m d value came regs rest s h given is same list = tt
 taken_so site _ m d value came regs rest s h given is same list = tt
 
 -- ---- the bundle
 
-pub bundle_is : (c : Core) (u : ℕ) (b : Slots) (words : ℕ) → fetched_in c.plain ≡ Found b words → fault_of c.plain (effect_of b c.plain.regs) ≡ None
+pub bundle_is : (c : Core) (u : ℕ) (b : Slots) (words : ℕ) → fetched_in c.plain ≡ Found b words
+    → fault_of c.plain (effect_of b c.plain.regs) ≡ None
     → bundle u c ≡ answered (effect_of b c.plain.regs) u (with_plain (advanced words b) c)
 bundle_is c u b words found none =
     ap (λ f. done_as f u c) found
-    ∙ ap (λ t. elim t as (λ _. Prog Acted) [ None ↦ answered (effect_of b c.plain.regs) u (with_plain (advanced words b) c) | Some fault ↦ now (with_plain (stopped fault u) c) ]) none
+    ∙ ap (λ t. elim t as (λ _. Prog Acted) [
+      | None ↦ answered (effect_of b c.plain.regs) u
+          (with_plain (advanced words b) c)
+      | Some fault ↦ now (with_plain (stopped fault u) c)
+    ]) none
 
-bundle_event_is : (x : Plain) (b : Slots) (words : ℕ) → fetched_in x ≡ Found b words → fault_of x (effect_of b x.regs) ≡ None → bundle_event (fetched_in x) x ≡ event_of (effect_of b x.regs) ∷ []
+bundle_event_is : (x : Plain) (b : Slots) (words : ℕ) → fetched_in x ≡ Found b words → fault_of x (effect_of b x.regs)
+    ≡ None → bundle_event (fetched_in x) x ≡ event_of (effect_of b x.regs) ∷ []
 bundle_event_is x b words found none =
-    ap (λ f. bundle_event f x) found ∙ ap (λ t. elim t as (λ _. List Event) [ None ↦ event_of (effect_of b x.regs) ∷ [] | Some fault ↦ [] ]) none
+    ap (λ f. bundle_event f x) found ∙ ap (λ t. elim t as (λ _. List Event) [
+      | None ↦ event_of (effect_of b x.regs)
+          ∷ []
+      | Some fault ↦ []
+    ]) none
 
 module _ (n core : ℕ) where
   -- what comes of a bundle whose checks pass, its words being moved
-  pub comes_by : (m : Moment) (r : Run) (b : Slots) (words : ℕ) → IsAboutTo m → fetched_in (core_in m).plain ≡ Found b words
-      → IsSound (core_in m).plain.site (effect_of b (core_in m).plain.regs) (pointers_of r) r.memory → fault_of (core_in m).plain (effect_of b (core_in m).plain.regs) ≡ None
+  pub comes_by : (m : Moment) (r : Run) (b : Slots) (words : ℕ) → IsAboutTo m → fetched_in (core_in m).plain
+      ≡ Found b words
+      → IsSound (core_in m).plain.site (effect_of b (core_in m).plain.regs) (pointers_of r) r.memory
+      → fault_of (core_in m).plain (effect_of b (core_in m).plain.regs) ≡ None
       → Outcome (effect_of b (core_in m).plain.regs) (with_plain (advanced words b) (core_in m)) m.told.own
       (core_in (all_moved n core (bundled n core m))) (all_moved n core (bundled n core m)).told.own
   comes_by m r b words about found sound none =
@@ -142,21 +175,27 @@ module _ (n core : ℕ) where
       let d : Core = with_plain (advanced words b) c in
       let e : Effect = effect_of b c.plain.regs in
       let P : Core → List Operation → Type 0 = Outcome e d m.told.own in
-      let idle : c.plain.transfer.words ≡ 0 = eqb-true c.plain.transfer.words 0 (and_parts (c.plain.transfer.words == 0) (c.plain.free == m.cycle) about.free).0 in
+      let idle : c.plain.transfer.words ≡ 0 = eqb-true c.plain.transfer.words 0 (and_parts (c.plain.transfer.words == 0)
+      (c.plain.free == m.cycle) about.free).0 in
       all_settles_by n core P (outcome_of_both e d m.told.own) (bundled n core m)
       (acting_by n core (SettlesBy P) (bundle m.cycle c) m
-      (subst (λ p. LeavesBy (Done (SettlesBy P)) (stamp n core m.cycle 1) p m.told.own) (sym (bundle_is c m.cycle b words found none))
+      (subst (λ p. LeavesBy (Done (SettlesBy P)) (stamp n core m.cycle 1) p m.told.own)
+      (sym (bundle_is c m.cycle b words found none))
       (outcome c.plain.site m.cycle (stamp n core m.cycle 1) (pointers_of r) r.memory d m.told.own idle e sound)))
 
   -- what is pending after a bundle's transfer is so at the next moment
   pub next_pending : (m : Moment) → (core_in (all_moved n core (bundled n core m))).plain.transfer.words ≡ 0
-      → (core_in (next n core m)).plain.regs.pending ≡ (core_in (all_moved n core (bundled n core m))).plain.regs.pending
+      → (core_in (next n core m)).plain.regs.pending
+      ≡ (core_in (all_moved n core (bundled n core m))).plain.regs.pending
   next_pending m none =
       let a : Moment = all_moved n core (bundled n core m) in
       let p = (core_in a).plain.regs.pending in
       let P : Core → Type 0 = λ (c : Core). c.plain.regs.pending ≡ p in
       let k : KeepsPending p (landed a.cycle (core_in a)) = landed_pending a.cycle (core_in a) (inl none) in
-      rests_settles n core P (record { same = λ c d is h. ap (λ (z : Core). z.plain.regs.pending) is.task ∙ h; counts = λ u c h. h }) (landing a) k.pending k.rests
+      rests_settles n core P (record {
+        same = λ c d is h. ap (λ (z : Core). z.plain.regs.pending) is.task ∙ h;
+        counts = λ u c h. h;
+      }) (landing a) k.pending k.rests
 
   -- ---- after the bundle
 
@@ -167,9 +206,12 @@ module _ (n core : ℕ) where
     pub events_are : bundle_event (fetched_in (core_in m).plain) (core_in m).plain ≡ events
 
   module _ (x : Core) (values : List ℕ) where
-    pub behind : (w : Walk) (b : Slots) (rest : List ℕ) (m : Moment) → Stands n core x values w m → (f : Fetches x.plain.site.image b (flowed w))
-        → IsSound x.plain.site (effect_of f.bundle (flowed w).run.regs) (pointers_of (flowed w).run) (flowed w).run.memory → (flowed w).run.loads ≡ given n core m ++ rest
-        → Behind x.plain.site (bundle_done by_stack f.bundle f.words (flowed w)) rest (event_of (effect_of f.bundle (flowed w).run.regs) ∷ []) m
+    pub behind : (w : Walk) (b : Slots) (rest : List ℕ) (m : Moment) → Stands n core x values w m
+        → (f : Fetches x.plain.site.image b (flowed w))
+        → IsSound x.plain.site (effect_of f.bundle (flowed w).run.regs) (pointers_of (flowed w).run)
+        (flowed w).run.memory → (flowed w).run.loads ≡ given n core m ++ rest
+        → Behind x.plain.site (bundle_done by_stack f.bundle f.words (flowed w)) rest (event_of (effect_of f.bundle
+        (flowed w).run.regs) ∷ []) m
     behind w b rest m st f sound list = record {
       meets = record {
         goes = record {
@@ -179,8 +221,12 @@ module _ (n core : ℕ) where
             offset = ap (λ k. k + f.words) is_as.offset ∙ sym comes.is_like.offset;
             flow = flow_alike by_stack f.bundle f.words v c.plain is_as ∙ sym comes.is_like.flow;
           };
-          stack = subst (λ z. HoldsStack z c'.plain.stack c'.plain.private) (sym late_is) (effected_stack e r' c'.plain (held_like (run_stack e r') (did e comes.value d) c' comes.is_like (stack_held c.plain.site e r' d.plain sound_there h')));
-          ports = subst (λ (z : Run). HoldsPorts z.memory c'.plain.interface) (sym late_is) (holds_still (effected by_stack e r').memory (port_with e d).plain.interface c'.plain.interface comes.is_like.ports (ports_held c.plain.site e r' d sound_there st.goes.ports));
+          stack = subst (λ z. HoldsStack z c'.plain.stack c'.plain.private) (sym late_is) (effected_stack e r' c'.plain
+              (held_like (run_stack e r') (did e comes.value d) c' comes.is_like
+              (stack_held c.plain.site e r' d.plain sound_there h')));
+          ports = subst (λ (z : Run). HoldsPorts z.memory c'.plain.interface) (sym late_is)
+              (holds_still (effected by_stack e r').memory (port_with e d).plain.interface c'.plain.interface
+              comes.is_like.ports (ports_held c.plain.site e r' d sound_there st.goes.ports));
         };
         site_is = comes.is_like.site ∙ st.site_is;
         status = comes.is_like.status ∙ running_status c.plain st.at.about.running;
@@ -222,16 +268,18 @@ module _ (n core : ℕ) where
         found = (λ i. fetched_at (st.site_is i).image (sym is_as.base i) (sym is_as.offset i)) ∙ f.found
 
         sound_there : IsSound c.plain.site e (pointers_of v.run) v.run.memory
-        sound_there = subst (λ s. IsSound s e (pointers_of v.run) v.run.memory) (sym st.site_is) (subst (λ k. IsSound x.plain.site k (pointers_of v.run) v.run.memory) asks sound)
+        sound_there = subst (λ s. IsSound s e (pointers_of v.run) v.run.memory) (sym st.site_is)
+            (subst (λ k. IsSound x.plain.site k (pointers_of v.run) v.run.memory) asks sound)
 
         none : fault_of c.plain e ≡ None
-        none = sound_passes e v.run c.plain h st.goes.ports sound_there (λ kind is. no_fault f.bundle kind v c.plain is_as f.alone is)
+        none = sound_passes e v.run c.plain h st.goes.ports sound_there (λ kind is. no_fault f.bundle kind v c.plain
+            is_as f.alone is)
 
-        behind_regs : Registers
-        behind_regs = after_bundle c.plain.stack.st c.plain.stack.ss f.bundle c.plain.regs
+        after_regs : Registers
+        after_regs = after_bundle c.plain.stack.st c.plain.stack.ss f.bundle c.plain.regs
 
         r' : Run
-        r' = record v.run { regs = behind_regs }
+        r' = record v.run { regs = after_regs }
 
         h' : HoldsStack r' c.plain.stack c.plain.private
         h' = same_stack v.run r' c.plain refl refl refl h
@@ -239,28 +287,34 @@ module _ (n core : ℕ) where
         comes : Outcome e d m.told.own c' (all_moved n core (bundled n core m)).told.own
         comes = comes_by m r' f.bundle f.words st.at.about found sound_there none
 
-        after : IsBehind n core m
-        after = is_behind n core x values m st.at
+        after : IsAfter n core m
+        after = is_after n core x values m st.at
 
         list_there : v.run.loads ≡ given_by e next_regs ++ rest
         list_there = list ∙ ap (λ g. given_by (asked_in g c.plain.regs) next_regs ++ rest) found
 
         taken : IsTaken e r' comes.value
-        taken = taken_so c.plain.site e r' d.plain comes.value c'.plain.regs next_regs rest sound_there h' comes.given comes.is_like.regs (next_pending m after.words) list_there
+        taken = taken_so c.plain.site e r' d.plain comes.value c'.plain.regs next_regs rest sound_there h' comes.given
+            comes.is_like.regs (next_pending m after.words) list_there
 
         late_is : late by_stack f.bundle v.run ≡ effected by_stack e r'
-        late_is = λ i. effected by_stack (effect_of f.bundle (is_as.regs i)) (record v.run { regs = after_bundle (h.st i) (h.ss i) f.bundle (is_as.regs i) })
+        late_is = λ i. effected by_stack (effect_of f.bundle (is_as.regs i))
+            (record v.run { regs = after_bundle (h.st i) (h.ss i) f.bundle (is_as.regs i) })
 
     -- ---- to the next moment
 
     -- the bundle was done, where the core was
-    pub listed : (w : Walk) (b : Slots) (rest : List ℕ) (m : Moment) → Stands n core x values w m → (f : Fetches x.plain.site.image b (flowed w))
-        → IsSound x.plain.site (effect_of f.bundle (flowed w).run.regs) (pointers_of (flowed w).run) (flowed w).run.memory → (flowed w).run.loads ≡ given n core m ++ rest
+    pub listed : (w : Walk) (b : Slots) (rest : List ℕ) (m : Moment) → Stands n core x values w m
+        → (f : Fetches x.plain.site.image b (flowed w))
+        → IsSound x.plain.site (effect_of f.bundle (flowed w).run.regs) (pointers_of (flowed w).run)
+        (flowed w).run.memory → (flowed w).run.loads ≡ given n core m ++ rest
         → (next n core m).bundles ≡ m.bundles ++ done_at m ∷ []
     listed w b rest m st f sound list =
-        next_bundles n core m st.at.about ∙ ap (λ es. m.bundles ++ done_with es m) (behind w b rest m st f sound list).events_are
+        next_bundles n core m st.at.about ∙ ap (λ es. m.bundles ++ done_with es m) (behind w b rest m st f sound
+        list).events_are
 
-    pub done_as_told : (w : Walk) (b : Slots) (m : Moment) → Stands n core x values w m → Fetches x.plain.site.image b (flowed w) → IsDoneAs x.plain.site.image b (done_at m)
+    pub done_as_told : (w : Walk) (b : Slots) (m : Moment) → Stands n core x values w m
+        → Fetches x.plain.site.image b (flowed w) → IsDoneAs x.plain.site.image b (done_at m)
     done_as_told w b m st f = record {
       bundle = f.bundle;
       words = f.words;
@@ -274,26 +328,43 @@ module _ (n core : ℕ) where
       pub loads : w.run.loads ≡ rest
       pub events_are : events_in n core m ≡ events
 
-    pub lies_of_task : (w : Walk) → OfTask (λ (c : Core). Goes w c.plain × ((c.plain.site ≡ x.plain.site) × (c.plain.status ≡ Running)))
+    pub lies_of_task : (w : Walk) → OfTask (λ (c : Core). Goes w c.plain × ((c.plain.site ≡ x.plain.site)
+        × (c.plain.status ≡ Running)))
     lies_of_task w = record {
-      same = λ c d is h. subst (λ (z : Core). Goes w z.plain × ((z.plain.site ≡ x.plain.site) × (z.plain.status ≡ Running))) (sym is.task)
-          (goes_again (with_interface c d.plain.interface) c refl refl refl refl refl refl (holds_still w.run.memory c.plain.interface d.plain.interface is.ports h.0.ports) h.0, h.1);
+      same = λ c d is h. subst (λ (z : Core). Goes w z.plain × ((z.plain.site ≡ x.plain.site)
+          × (z.plain.status ≡ Running))) (sym is.task) (
+            goes_again (with_interface c d.plain.interface) c refl refl refl refl refl refl
+                (holds_still w.run.memory c.plain.interface d.plain.interface is.ports h.0.ports) h.0,
+            h.1,
+          );
       counts = λ u c h. (goes_again (counted u c) c refl refl refl refl refl refl h.0.ports h.0, h.1);
     }
       where
-        goes_again : (d c : Core) → c.plain.regs ≡ d.plain.regs → c.plain.base ≡ d.plain.base → c.plain.offset ≡ d.plain.offset → c.plain.flow ≡ d.plain.flow → c.plain.stack ≡ d.plain.stack → c.plain.private ≡ d.plain.private
+        goes_again : (d c : Core) → c.plain.regs ≡ d.plain.regs → c.plain.base ≡ d.plain.base → c.plain.offset
+            ≡ d.plain.offset → c.plain.flow ≡ d.plain.flow → c.plain.stack ≡ d.plain.stack → c.plain.private
+            ≡ d.plain.private
             → HoldsPorts w.run.memory d.plain.interface → Goes w c.plain → Goes w d.plain
         goes_again d c regs base offset flow stack private ports g = record {
-          is_as = record { regs = g.is_as.regs ∙ regs; base = g.is_as.base ∙ base; offset = g.is_as.offset ∙ offset; flow = g.is_as.flow ∙ flow };
-          stack = subst (λ s. HoldsStack w.run s d.plain.private) stack (subst (λ p. HoldsStack w.run c.plain.stack p) private g.stack);
+          is_as = record {
+            regs = g.is_as.regs ∙ regs;
+            base = g.is_as.base ∙ base;
+            offset = g.is_as.offset ∙ offset;
+            flow = g.is_as.flow ∙ flow;
+          };
+          stack = subst (λ s. HoldsStack w.run s d.plain.private) stack (subst (λ p. HoldsStack w.run c.plain.stack p)
+              private g.stack);
           ports = ports;
         }
 
-    pub steps : (w : Walk) (b : Slots) (rest : List ℕ) (m : Moment) → Stands n core x values w m → (f : Fetches x.plain.site.image b (flowed w))
-        → IsSound x.plain.site (effect_of f.bundle (flowed w).run.regs) (pointers_of (flowed w).run) (flowed w).run.memory → (flowed w).run.loads ≡ given n core m ++ rest
-        → StartsBehind x.plain.site.image → IsPlaced x.plain.site.image (bundle_done by_stack f.bundle f.words (flowed w))
+    pub steps : (w : Walk) (b : Slots) (rest : List ℕ) (m : Moment) → Stands n core x values w m
+        → (f : Fetches x.plain.site.image b (flowed w))
+        → IsSound x.plain.site (effect_of f.bundle (flowed w).run.regs) (pointers_of (flowed w).run)
+        (flowed w).run.memory → (flowed w).run.loads ≡ given n core m ++ rest
+        → StartsAfter x.plain.site.image → IsPlaced x.plain.site.image (bundle_done by_stack f.bundle
+        f.words (flowed w))
         → Steps (bundle_done by_stack f.bundle f.words (flowed w)) rest
-        (event_of (effect_of f.bundle (flowed w).run.regs) ∷ goal_events x.plain.site.image (due (bundle_done by_stack f.bundle f.words (flowed w)).flow)) m
+        (event_of (effect_of f.bundle (flowed w).run.regs) ∷ goal_events x.plain.site.image (due
+        (bundle_done by_stack f.bundle f.words (flowed w)).flow)) m
     steps w b rest m st f sound list starts placed = record {
       stands = record {
         at = record { slots = subst IsSlotted (sym on.site_is) st.at.slots; about = about; passes = on.passes };
@@ -319,8 +390,11 @@ module _ (n core : ℕ) where
         on : GoesOnward n core x values m
         on = goes_onward n core x values m st.at
 
-        there : Goes (flowed w') (core_in (next n core m)).plain × (((core_in (next n core m)).plain.site ≡ x.plain.site) × ((core_in (next n core m)).plain.status ≡ Running))
-        there = rests_settles n core (λ (c : Core). Goes (flowed w') c.plain × ((c.plain.site ≡ x.plain.site) × (c.plain.status ≡ Running))) (lies_of_task (flowed w')) (landing a)
+        there : Goes (flowed w') (core_in (next n core m)).plain
+            × (((core_in (next n core m)).plain.site ≡ x.plain.site)
+            × ((core_in (next n core m)).plain.status ≡ Running))
+        there = rests_settles n core (λ (c : Core). Goes (flowed w') c.plain × ((c.plain.site ≡ x.plain.site)
+            × (c.plain.status ≡ Running))) (lies_of_task (flowed w')) (landing a)
             (lies.lies.goes, (lies.lies.site_is, lies.lies.status)) lies.lies.rests
 
         not_ended : has_ended (core_in (next n core m)).plain ≡ false
@@ -329,7 +403,8 @@ module _ (n core : ℕ) where
         by : ComesTo (next n core m) → IsAboutTo (next n core m)
         by (about_to h) = h
         by (ended status h free) = absurd (true≢false (sym h ∙ not_ended))
-        by (trapped fault h) = absurd (let bad : Trapped fault (next n core m).cycle ≡ Running = sym h ∙ there.1.1 in cc)
+        by (trapped fault h) =
+            absurd (let bad : Trapped fault (next n core m).cycle ≡ Running = sym h ∙ there.1.1 in cc)
 
         about : IsAboutTo (next n core m)
         about = by on.comes
@@ -340,10 +415,14 @@ module _ (n core : ℕ) where
       pub ended : Ended n core w (next n core m)
       pub events_are : events_in n core m ≡ events
 
-    pub finishes : (w : Walk) (b : Slots) (rest : List ℕ) (m : Moment) → Stands n core x values w m → (f : Fetches x.plain.site.image b (flowed w))
-        → IsSound x.plain.site (effect_of f.bundle (flowed w).run.regs) (pointers_of (flowed w).run) (flowed w).run.memory → (flowed w).run.loads ≡ given n core m ++ rest
-        → (offset : ℕ) → (bundle_done by_stack f.bundle f.words (flowed w)).flow ≡ Some (record { goal = goal.Return 0 offset; slots = 0 })
-        → Finishes (bundle_done by_stack f.bundle f.words (flowed w)) (event_of (effect_of f.bundle (flowed w).run.regs) ∷ []) m
+    pub finishes : (w : Walk) (b : Slots) (rest : List ℕ) (m : Moment) → Stands n core x values w m
+        → (f : Fetches x.plain.site.image b (flowed w))
+        → IsSound x.plain.site (effect_of f.bundle (flowed w).run.regs) (pointers_of (flowed w).run)
+        (flowed w).run.memory → (flowed w).run.loads ≡ given n core m ++ rest
+        → (offset : ℕ) → (bundle_done by_stack f.bundle f.words (flowed w)).flow
+        ≡ Some (record { goal = goal.Return 0 offset; slots = 0 })
+        → Finishes (bundle_done by_stack f.bundle f.words (flowed w)) (event_of (effect_of f.bundle (flowed w).run.regs)
+        ∷ []) m
     finishes w b rest m st f sound list offset flow = record {
       ended = record {
         status = there.1.1;
@@ -362,7 +441,8 @@ module _ (n core : ℕ) where
         one : Behind x.plain.site w' rest (event_of (effect_of f.bundle (flowed w).run.regs) ∷ []) m
         one = behind w b rest m st f sound list
 
-        ends : (has_ended (core_in a).plain ≡ true) × ((landed a.cycle (core_in a) ≡ core_in a) × (landing_event a.cycle (core_in a).plain ≡ []))
+        ends : (has_ended (core_in a).plain ≡ true) × ((landed a.cycle (core_in a) ≡ core_in a)
+            × (landing_event a.cycle (core_in a).plain ≡ []))
         ends = ends_there x.plain.site a.cycle w' (core_in a) offset one.meets flow
 
         P : Core → Type 0
@@ -372,7 +452,8 @@ module _ (n core : ℕ) where
         here = subst P (sym ends.1.0) (one.meets.goes, (one.meets.site_is, one.meets.status))
 
         there : P (core_in (next n core m))
-        there = rests_settles n core P (lies_of_task w') (landing a) here (inl (ap (λ (c : Core). c.plain.transfer.words) ends.1.0 ∙ one.meets.words))
+        there = rests_settles n core P (lies_of_task w') (landing a) here
+            (inl (ap (λ (c : Core). c.plain.transfer.words) ends.1.0 ∙ one.meets.words))
 
         on : GoesOnward n core x values m
         on = goes_onward n core x values m st.at
@@ -383,7 +464,8 @@ module _ (n core : ℕ) where
         by : ComesTo (next n core m) → has_ended (core_in (next n core m)).plain ≡ true
         by (about_to h) = absurd (true≢false (sym due_there ∙ h.settled))
         by (ended status h free) = h
-        by (trapped fault h) = absurd (let bad : Trapped fault (next n core m).cycle ≡ Running = sym h ∙ there.1.1 in cc)
+        by (trapped fault h) =
+            absurd (let bad : Trapped fault (next n core m).cycle ≡ Running = sym h ∙ there.1.1 in cc)
 
         there_ended : has_ended (core_in (next n core m)).plain ≡ true
         there_ended = by on.comes

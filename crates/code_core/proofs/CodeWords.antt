@@ -27,7 +27,8 @@ alone_fits : (op : Op) (first : ℕ) → FitsOp op → first < 2 ^ 31 → Each I
 alone_fits (AluLong func rd ra constant) first fits small = (omega (arith, small), (fits.2, tt))
 alone_fits _ first fits small = (omega (arith, small), tt)
 
-beside_fits : (op : Op) (i : Instr) (first : ℕ) → FitsInstr i → first < 2 ^ 31 → Each IsWord (words first (second_word op (Some i)))
+beside_fits : (op : Op) (i : Instr) (first : ℕ) → FitsInstr i → first < 2 ^ 31
+    → Each IsWord (words first (second_word op (Some i)))
 beside_fits op i first fits small = (omega (arith, small), (omega (arith, instr_small i fits), tt))
 
 code_fits : (b : Slots) → FitsBundle b → Each IsWord (code b)
@@ -40,27 +41,32 @@ code_fits b fits = by b.second fits.second
 
 codes_fit : (bs : List Slots) → All FitsBundle bs → Each IsWord (codes bs)
 codes_fit [] fits = tt
-codes_fit (b ∷ bs) fits = each-append IsWord (code b) (codes bs) (code_fits b (fits 0 b (omega arith))) (codes_fit bs (λ k d l. fits (suc k) d (omega (arith, l))))
+codes_fit (b ∷ bs) fits = each-append IsWord (code b) (codes bs) (code_fits b (fits 0 b (omega arith)))
+    (codes_fit bs (λ k d l. fits (suc k) d (omega (arith, l))))
 
 -- ---- functions
 
-module _ (s : PlainShape) (fits : FitsImage s) (bundles : (k : ℕ) → k < length s.functions → All FitsBundle (flat s k)) where
+module _ (s : PlainShape) (fits : FitsImage s) (bundles : (k : ℕ) → k < length s.functions
+    → All FitsBundle (flat s k)) where
   size_small : (k : ℕ) → size_of s k ≤ 4096
   size_small k = elim (cases_lt k (length s.functions)) [
     | inl less ↦ fits.small k less
-    | inr past ↦ let none : size_of s k ≡ 0 = ap parts_words (get_or-eq_default s.functions no_part (omega (arith, past))) in omega (arith, none)
+    | inr past ↦ let none : size_of s k ≡ 0 =
+        ap parts_words (get_or-eq_default s.functions no_part (omega (arith, past))) in omega (arith, none)
   ]
 
   flat_fits : (k : ℕ) → Each IsWord (codes (flat s k))
   flat_fits k = elim (cases_lt k (length s.functions)) [
     | inl less ↦ codes_fit (flat s k) (bundles k less)
-    | inr past ↦ subst (λ ps. Each IsWord (codes (flat_parts (start_of s) ps))) (sym (get_or-eq_default s.functions no_part (omega (arith, past)))) tt
+    | inr past ↦ subst (λ ps. Each IsWord (codes (flat_parts (start_of s) ps)))
+        (sym (get_or-eq_default s.functions no_part (omega (arith, past)))) tt
   ]
 
   pieces_fit : (ks : List ℕ) → Each IsWord (flat_map (λ k. function_words (start_of s) (function s k)) ks)
   pieces_fit [] = tt
   pieces_fit (k ∷ ks) =
-      each-append IsWord (function_words (start_of s) (function s k)) (flat_map (λ j. function_words (start_of s) (function s j)) ks)
+      each-append IsWord (function_words (start_of s) (function s k))
+      (flat_map (λ j. function_words (start_of s) (function s j)) ks)
       (omega (arith, size_small k), flat_fits k) (pieces_fit ks)
 
   -- ---- places
@@ -69,10 +75,12 @@ module _ (s : PlainShape) (fits : FitsImage s) (bundles : (k : ℕ) → k < leng
   few_others size entry zero = omega arith
   few_others size entry (suc k) =
       let before = few_others size entry k in
-      elim (k == entry) as (λ b. others_below size entry k + (if b then 0 else 1 + size k) ≤ words_below size k + (1 + size k)) [ true ↦ omega (arith, before) | false ↦ omega (arith, before) ]
+      elim (k == entry) as (λ b. others_below size entry k + (if b then 0 else 1 + size k) ≤ words_below size k
+      + (1 + size k)) [ true ↦ omega (arith, before) | false ↦ omega (arith, before) ]
 
   more_words : (size : ℕ → ℕ) (k d : ℕ) → words_below size k ≤ words_below size (k + d)
-  more_words size k zero = let same : k + 0 ≡ k = omega arith in subst (λ n. words_below size k ≤ words_below size n) (sym same) (omega arith)
+  more_words size k zero = let same : k + 0 ≡ k = omega arith in subst (λ n. words_below size k ≤ words_below size n)
+      (sym same) (omega arith)
   more_words size k (suc d) =
       let next : k + suc d ≡ suc (k + d) = omega arith in
       let before = more_words size k d in
@@ -82,8 +90,10 @@ module _ (s : PlainShape) (fits : FitsImage s) (bundles : (k : ℕ) → k < leng
   start_small k d all =
       let a = few_others (size_of s) s.entry k in
       let b = more_words (size_of s) k d in
-      let c : words_below (size_of s) (k + d) ≤ 32768 = subst (λ n. words_below (size_of s) n ≤ 32768) (sym all) fits.within in
-      elim (k == s.entry) as (λ e. IsWord (if e then 1 else 1 + size_of s s.entry + others_below (size_of s) s.entry k + 1)) [ true ↦ omega arith | false ↦ omega (arith, a, b, c, size_small s.entry) ]
+      let c : words_below (size_of s) (k + d) ≤ 32768 =
+      subst (λ n. words_below (size_of s) n ≤ 32768) (sym all) fits.within in
+      elim (k == s.entry) as (λ e. IsWord (if e then 1 else 1 + size_of s s.entry + others_below (size_of s) s.entry k
+      + 1)) [ true ↦ omega arith | false ↦ omega (arith, a, b, c, size_small s.entry) ]
 
   others_start : (n d : ℕ) → n + d ≡ length s.functions → Each IsWord (map (start_of s) (others s.entry n))
   others_start zero d all = tt
@@ -95,7 +105,8 @@ module _ (s : PlainShape) (fits : FitsImage s) (bundles : (k : ℕ) → k < leng
         | false ↦ joined (others s.entry n) (n ∷ []) before (one, tt)
       ]
     where
-      joined : (xs ys : List ℕ) → Each IsWord (map (start_of s) xs) → Each IsWord (map (start_of s) ys) → Each IsWord (map (start_of s) (xs ++ ys))
+      joined : (xs ys : List ℕ) → Each IsWord (map (start_of s) xs) → Each IsWord (map (start_of s) ys)
+          → Each IsWord (map (start_of s) (xs ++ ys))
       joined [] ys a b = b
       joined (x ∷ xs) ys a b = (a.0, joined xs ys a.1 b)
 

@@ -28,10 +28,13 @@ use Rattle.code_core.specs.Goes.{goal_events, run_events}
 
 -- what an operation asks for as an event, and the addresses that are left
 record Told (on : Bool) (op : Op) (regs : Registers) (rest : List ℕ) : Type 0 where
-  event : event_of (if on then asked regs op else effect.Nothing) ≡ kind_of op (first_load (cached_in (if on then asked regs op else effect.Nothing) ++ rest))
-  left : (if is_cached op then other_loads (cached_in (if on then asked regs op else effect.Nothing) ++ rest) else cached_in (if on then asked regs op else effect.Nothing) ++ rest) ≡ rest
+  event : event_of (if on then asked regs op else effect.Nothing)
+      ≡ kind_of op (first_load (cached_in (if on then asked regs op else effect.Nothing) ++ rest))
+  left : (if is_cached op then other_loads (cached_in (if on then asked regs op else effect.Nothing)
+      ++ rest) else cached_in (if on then asked regs op else effect.Nothing) ++ rest) ≡ rest
 
-told : (on : Bool) (op : Op) (regs : Registers) (rest : List ℕ) → (may_move op ≡ true → on ≡ true) → Told on op regs rest
+told : (on : Bool) (op : Op) (regs : Registers) (rest : List ℕ) → (may_move op ≡ true → on ≡ true)
+    → Told on op regs rest
 told true (Load mem.S width rd ra imm) regs rest h = record { event = refl; left = refl }
 told true (Load mem.L width rd ra imm) regs rest h = record { event = refl; left = refl }
 told true (Load mem.C width rd ra imm) regs rest h = record { event = refl; left = refl }
@@ -52,21 +55,26 @@ told false (Store mem.M width ra rs imm) regs rest h = absurd (true≢false (sym
 told false (Stack func count) regs rest h = absurd (true≢false (sym (h refl)))
 told false _ regs rest h = record { event = refl; left = refl }
 
-steady_on : (b : Slots) (regs : Registers) → FitsRegisters regs → is_steady b ≡ true → may_move b.first.op ≡ true → holds regs b.first.guard ≡ true
+steady_on : (b : Slots) (regs : Registers) → FitsRegisters regs → is_steady b ≡ true → may_move b.first.op ≡ true
+    → holds regs b.first.guard ≡ true
 steady_on b regs fits steady moves =
     always_holds b.first.guard regs fits (sym (ap (λ t. if t then is_always b.first.guard else true) moves) ∙ steady)
 
 begun_fits : (m : Run) → FitsRegisters m.regs → FitsRegisters (begun m).regs
 begun_fits m h = record { count = h.count; pred_count = h.pred_count; zero = h.zero; always = h.always }
 
-pub fixed : (image : Parts) (from : Sources) (steps : List Step) (ds : List (Option Goal)) (m : Run) → AreSteady steps → FitsRegisters m.regs → run_events image from steps ds m ≡ fixed_events image steps ds (addresses_in from steps m)
+pub fixed : (image : Parts) (from : Sources) (steps : List Step) (ds : List (Option Goal)) (m : Run) → AreSteady steps
+    → FitsRegisters m.regs → run_events image from steps ds m ≡ fixed_events image steps ds (addresses_in from steps m)
 fixed image from [] ds m steady fits = refl
 fixed image from (does b ∷ steps) [] m steady fits = refl
 fixed image from (does b ∷ steps) (d ∷ ds) m steady fits =
     let rest : List ℕ = addresses_in from steps (late from b m) in
-    let t : Told (holds m.regs b.first.guard) b.first.op m.regs rest = told (holds m.regs b.first.guard) b.first.op m.regs rest (steady_on b m.regs fits steady.0) in
-    (λ i. (t.event i ∷ goal_events image d) ++ fixed image from steps ds (late from b m) steady.1 (late_fits from b m fits) i)
-    ∙ ap (λ l. (kind_of b.first.op (first_load (cached_in (effect_of b m.regs) ++ rest)) ∷ goal_events image d) ++ fixed_events image steps ds l) (sym t.left)
+    let t : Told (holds m.regs b.first.guard) b.first.op m.regs rest =
+    told (holds m.regs b.first.guard) b.first.op m.regs rest (steady_on b m.regs fits steady.0) in
+    (λ i. (t.event i ∷ goal_events image d) ++ fixed image from steps ds (late from b m) steady.1
+    (late_fits from b m fits) i)
+    ∙ ap (λ l. (kind_of b.first.op (first_load (cached_in (effect_of b m.regs) ++ rest)) ∷ goal_events image d)
+    ++ fixed_events image steps ds l) (sym t.left)
 fixed image from (begins ∷ steps) ds m steady fits = fixed image from steps ds (begun m) steady (begun_fits m fits)
 
 -- ---- the bundles of shapes
@@ -85,28 +93,35 @@ steady_copies zero xs h = tt
 steady_copies (suc n) xs h = steady_append xs (copies n xs) h (steady_copies n xs h)
 
 mutual
-  steady_part : (f : ℕ → List Step) → ((k : ℕ) → AreSteady (f k)) → (p : PlainPart) → part_all is_steady p ≡ true → AreSteady (part_trail f p)
+  steady_part : (f : ℕ → List Step) → ((k : ℕ) → AreSteady (f k)) → (p : PlainPart) → part_all is_steady p ≡ true
+      → AreSteady (part_trail f p)
   steady_part f each (straight bs) h = steady_all bs h
   steady_part f each (repeats count body tail) h =
       let p = and_parts (parts_all is_steady body) (list_all is_steady tail) h in
-      steady_copies count (parts_trail f body ++ all_done tail) (steady_append (parts_trail f body) (all_done tail) (steady_parts f each body p.0) (steady_all tail p.1))
+      steady_copies count (parts_trail f body ++ all_done tail) (steady_append (parts_trail f body) (all_done tail)
+      (steady_parts f each body p.0) (steady_all tail p.1))
   steady_part f each (calls_to k tail) h = steady_append (all_done tail) (begins ∷ f k) (steady_all tail h) (each k)
   steady_part f each (leaves tail) h = steady_all tail h
 
-  steady_parts : (f : ℕ → List Step) → ((k : ℕ) → AreSteady (f k)) → (ps : PlainParts) → parts_all is_steady ps ≡ true → AreSteady (parts_trail f ps)
+  steady_parts : (f : ℕ → List Step) → ((k : ℕ) → AreSteady (f k)) → (ps : PlainParts) → parts_all is_steady ps ≡ true
+      → AreSteady (parts_trail f ps)
   steady_parts f each no_part h = tt
   steady_parts f each (part p rest) h =
       let a = and_parts (part_all is_steady p) (parts_all is_steady rest) h in
       steady_append (part_trail f p) (parts_trail f rest) (steady_part f each p a.0) (steady_parts f each rest a.1)
 
-steady_functions : (fs : List PlainParts) → ((k : ℕ) → parts_all is_steady (slice_index_or fs k no_part) ≡ true) → (n k : ℕ) → AreSteady (trails fs n k)
+steady_functions : (fs : List PlainParts) → ((k : ℕ) → parts_all is_steady (slice_index_or fs k no_part) ≡ true)
+    → (n k : ℕ) → AreSteady (trails fs n k)
 steady_functions fs each zero k = tt
-steady_functions fs each (suc n) k = elim (k == n) as (λ b. AreSteady (if b then parts_trail (trails fs n) (slice_index_or fs n no_part) else trails fs n k)) [
-  | true ↦ steady_parts (trails fs n) (steady_functions fs each n) (slice_index_or fs n no_part) (each n)
-  | false ↦ steady_functions fs each n k
-]
+steady_functions fs each (suc n) k =
+    elim (k == n) as (λ b. AreSteady (if b then parts_trail (trails fs n) (slice_index_or fs n no_part) else
+    trails fs n k)) [
+      | true ↦ steady_parts (trails fs n) (steady_functions fs each n) (slice_index_or fs n no_part) (each n)
+      | false ↦ steady_functions fs each n k
+    ]
 
-pub steady_trail : (s : PlainShape) → ((k : ℕ) → k < length s.functions → parts_all is_steady (slice_index_or s.functions k no_part) ≡ true) → AreSteady (trail s)
+pub steady_trail : (s : PlainShape) → ((k : ℕ) → k < length s.functions
+    → parts_all is_steady (slice_index_or s.functions k no_part) ≡ true) → AreSteady (trail s)
 steady_trail s each = steady_functions s.functions all (length s.functions) s.entry
   where
     all : (k : ℕ) → parts_all is_steady (slice_index_or s.functions k no_part) ≡ true

@@ -15,7 +15,6 @@ use Rattle.patmos_sem.specs.declared.pending.Pending.TheVariants as pending
 use Rattle.patmos_model.specs.Apart.{Followed, injected, after_delivery}
 use Rattle.patmos_model.specs.Begin.{begun}
 use Rattle.patmos_model.specs.Bundle.{bundle}
-use Rattle.patmos_model.specs.Bursts.{slots_of}
 use Rattle.patmos_model.specs.Cells.{Acted}
 use Rattle.patmos_model.specs.Cycle.{delivered, settled}
 use Rattle.patmos_model.specs.Flows.{flowed}
@@ -25,9 +24,9 @@ use Rattle.patmos_model.specs.State.{Core, is_running}
 use Rattle.patmos_model.specs.Transaction.{transaction}
 use Rattle.patmos_model.proofs.CoreRanges.{fit_bundle, fit_transaction, flowed_fits, fit_settled, fit_delivered, fit_injected, begun_in_range}
 use Rattle.core_pace.specs.Moment.{Moment, core_in, interfaced, before}
-use Rattle.core_pace.specs.Next.{acting, bundled, transacted, landing, waited, until, moved_once, moved, freed, all_moved, next}
+use Rattle.core_pace.specs.Next.{acting, bundled, landing, waited, freed, all_moved, next}
 use Rattle.core_pace.specs.Run.{first_moment, onward}
-use Rattle.core_pace.specs.Spans.{start_in}
+use Rattle.core_pace.proofs.Listed.{all_moved_keeps}
 use Rattle.code_core.specs.Goes.{pending_value, asked_at, given_by, given, loads_from}
 use Rattle.code_core.specs.Words.{AreGiven}
 
@@ -41,9 +40,11 @@ other_words : (values : List ℕ) → Each IsWord values → Each IsWord (other_
 other_words [] h = tt
 other_words (v ∷ vs) h = h.1
 
-fed_fits : {X : Type 0} (Good : X → Type 0) (words at : ℕ) (p : Prog X) (values : List ℕ) → IsFit Good words p → Each IsWord values → Good (fed at p values).core × Each IsWord (fed at p values).left
+fed_fits : {X : Type 0} (Good : X → Type 0) (words at : ℕ) (p : Prog X) (values : List ℕ) → IsFit Good words p
+    → Each IsWord values → Good (fed at p values).core × Each IsWord (fed at p values).left
 fed_fits Good words at (done x) values fit h = (fit, h)
-fed_fits Good words at (get word go_on) values fit h = fed_fits Good words at (go_on (first_value values)) (other_values values) (fit.1 (first_value values) (first_word values h)) (other_words values h)
+fed_fits Good words at (get word go_on) values fit h = fed_fits Good words at (go_on (first_value values))
+    (other_values values) (fit.1 (first_value values) (first_word values h)) (other_words values h)
 fed_fits Good words at (set word value rest) values fit h = fed_fits Good words at rest values fit.2 h
 
 -- ---- moments
@@ -55,39 +56,29 @@ module _ (n core words : ℕ) where
 
   acting_fits : (p : Prog Acted) (m : Moment) → IsFit (ActedFits words) words p → FitsAt m → FitsAt (acting n core p m)
   acting_fits p m fit h =
-      let f = fed_fits (InRange words) words (stamp n core m.cycle 1) (and_then p settled) m.told.run.left (fit-then (ActedFits words) (InRange words) words p settled fit (fit_settled words)) h.left in
+      let f = fed_fits (InRange words) words (stamp n core m.cycle 1) (and_then p settled) m.told.run.left
+      (fit-then (ActedFits words) (InRange words) words p settled fit (fit_settled words)) h.left in
       record { ranged = f.0; left = f.1 }
 
   interfaced_fits : (m : Moment) → FitsAt m → FitsAt (interfaced n core m)
   interfaced_fits m h =
-      let a = fed_fits (InRange words) words (stamp n core m.cycle 0) (delivered m.cycle (core_in m)) m.told.run.left (fit_delivered words m.cycle (core_in m) h.ranged) h.left in
+      let a = fed_fits (InRange words) words (stamp n core m.cycle 0) (delivered m.cycle (core_in m)) m.told.run.left
+      (fit_delivered words m.cycle (core_in m) h.ranged) h.left in
       let f : Followed = after_delivery n core m.cycle m.told in
-      let b = fed_fits (InRange words) words (stamp n core m.cycle 1) (injected m.cycle f.run.core) f.run.left (fit_injected words m.cycle f.run.core a.0) a.1 in
+      let b = fed_fits (InRange words) words (stamp n core m.cycle 1) (injected m.cycle f.run.core) f.run.left
+      (fit_injected words m.cycle f.run.core a.0) a.1 in
       record { ranged = b.0; left = b.1 }
 
   waited_fits : (d : ℕ) (m : Moment) → FitsAt m → FitsAt (waited n core d m)
   waited_fits zero m h = h
   waited_fits (suc d) m h =
       let w = waited_fits d m h in
-      interfaced_fits (record (waited n core d m) { cycle = suc (waited n core d m).cycle }) (record { ranged = w.ranged; left = w.left })
-
-  moved_once_fits : (m : Moment) → FitsAt m → FitsAt (moved_once n core m)
-  moved_once_fits m h =
-      let start = start_in (core_in m).plain.site m.cycle in
-      let u : Moment = until n core start m in
-      let w : FitsAt u = waited_fits (start - m.cycle) m h in
-      let t : FitsAt (transacted n core u) = acting_fits (transaction u.cycle (core_in u)) u (fit_transaction words u.cycle (core_in u) w.ranged) w in
-      waited_fits (core_in m).plain.site.slot (transacted n core u) t
-
-  moved_fits : (slots : ℕ) (m : Moment) → FitsAt m → FitsAt (moved n core slots m)
-  moved_fits zero m h = h
-  moved_fits (suc slots) m h = moved_fits slots (moved_once n core m) (moved_once_fits m h)
-
-  freed_fits : (m : Moment) → FitsAt m → FitsAt (freed n core m)
-  freed_fits m h = waited_fits ((core_in m).plain.free - m.cycle) m h
+      interfaced_fits (record (waited n core d m) { cycle = suc (waited n core d m).cycle })
+      (record { ranged = w.ranged; left = w.left })
 
   all_moved_fits : (m : Moment) → FitsAt m → FitsAt (all_moved n core m)
-  all_moved_fits m h = freed_fits (moved n core (slots_of (core_in m).plain.transfer.words) m) (moved_fits (slots_of (core_in m).plain.transfer.words) m h)
+  all_moved_fits = all_moved_keeps n core FitsAt waited_fits (λ m h. acting_fits (transaction m.cycle (core_in m)) m
+      (fit_transaction words m.cycle (core_in m) h.ranged) h)
 
   landing_fits : (m : Moment) → FitsAt m → FitsAt (landing m)
   landing_fits m h = record { ranged = by (is_running (core_in m).plain); left = h.left }
@@ -98,7 +89,8 @@ module _ (n core words : ℕ) where
 
   bundled_fits : (m : Moment) → FitsAt m → FitsAt (bundled n core m)
   bundled_fits m h =
-      let a : FitsAt (acting n core (bundle m.cycle (core_in m)) m) = acting_fits (bundle m.cycle (core_in m)) m (fit_bundle words m.cycle (core_in m) h.ranged) h in
+      let a : FitsAt (acting n core (bundle m.cycle (core_in m)) m) =
+      acting_fits (bundle m.cycle (core_in m)) m (fit_bundle words m.cycle (core_in m) h.ranged) h in
       record { ranged = a.ranged; left = a.left }
 
   pub next_fits : (m : Moment) → FitsAt m → FitsAt (next n core m)
@@ -128,18 +120,22 @@ module _ (n core words : ℕ) where
   loads_fit zero m h = tt
   loads_fit (suc count) m h =
       each-append IsWord (given n core m) (loads_from n core count (onward n core m))
-      (given_words (asked_at (core_in m).plain) (core_in (next n core m)).plain.regs (next_fits m h).ranged.plain.regs.pending)
+      (given_words (asked_at (core_in m).plain) (core_in (next n core m)).plain.regs
+      (next_fits m h).ranged.plain.regs.pending)
       (loads_fit count (onward n core m) (onward_fits m h))
 
 -- ---- from the beginning
 
 -- a task that is given words reads words, which its loads give
-pub loads_are_words : (n core : ℕ) (site : Site) (input values : List ℕ) (count : ℕ) → site.core < site.cores → HasCode site.image → Each IsWord site.image.initial → AreGiven input values
+pub loads_are_words : (n core : ℕ) (site : Site) (input values : List ℕ) (count : ℕ) → site.core < site.cores
+    → HasCode site.image → Each IsWord site.image.initial → AreGiven input values
     → Each IsWord (loads_from n core count (first_moment n core (begun site input) values))
 loads_are_words n core site input values count among code initial given_so =
     let words = comm_word site.cores 0 in
     let fits : SiteFits words site = record { among = among; room = omega arith; code = code } in
     let z : Moment = before n core (begun site input) values 0 in
-    let h : FitsAt n core words z = record { ranged = begun_in_range words site input fits initial given_so.0; left = given_so.1 } in
+    let h : FitsAt n core words z =
+    record { ranged = begun_in_range words site input fits initial given_so.0; left = given_so.1 } in
     let m : Moment = interfaced n core z in
-    loads_fit n core words count (all_moved n core (freed n core m)) (all_moved_fits n core words (freed n core m) (freed_fits n core words m (interfaced_fits n core words z h)))
+    loads_fit n core words count (all_moved n core (freed n core m)) (all_moved_fits n core words (freed n core m)
+    (waited_fits n core words ((core_in m).plain.free - m.cycle) m (interfaced_fits n core words z h)))

@@ -37,7 +37,11 @@ Rests t = (t.words ≡ 0) ⊎ (t.then ≡ then_on.Nothing)
 pub fetch_rests : (misses : List Method) (method : Method) → Rests (fetch_of misses method)
 fetch_rests misses method = by (is_among method.function (resident misses))
   where
-    by : (b : Bool) → Rests (elim b as (λ _. Transfer) [ true ↦ nothing | false ↦ reads (method.words + 1) then_on.Nothing ])
+    by : (b : Bool) → Rests (elim b as (λ _. Transfer) [
+      | true ↦ nothing
+      | false ↦ reads (method.words + 1)
+          then_on.Nothing
+    ])
     by true = inl refl
     by false = inr refl
 
@@ -64,12 +68,15 @@ landed_pending u c r = by (is_running c.plain) refl
 
     so : (d : Core) (events : List Event) → Lands u c d events → KeepsPending c.plain.regs.pending d
     so d events (stays is none not_due) = subst (KeepsPending c.plain.regs.pending) (sym is) as_it
-    so d events (halts free is none) = subst (KeepsPending c.plain.regs.pending) (sym is) (record { pending = refl; rests = r })
-    so d events (goes to free is some) = subst (KeepsPending c.plain.regs.pending) (sym is) (record { pending = gone_pending to c; rests = gone_rests to c r })
+    so d events (halts free is none) =
+        subst (KeepsPending c.plain.regs.pending) (sym is) (record { pending = refl; rests = r })
+    so d events (goes to free is some) = subst (KeepsPending c.plain.regs.pending) (sym is)
+        (record { pending = gone_pending to c; rests = gone_rests to c r })
 
     by : (b : Bool) → is_running c.plain ≡ b → KeepsPending c.plain.regs.pending (landed u c)
     by false still = subst (KeepsPending c.plain.regs.pending) (sym (landed_stopped c u still)) as_it
-    by true runs = subst (KeepsPending c.plain.regs.pending) (sym (landed_running c u runs)) (so (model.flowed u c) (flow_event u c.plain) (lands c u))
+    by true runs = subst (KeepsPending c.plain.regs.pending) (sym (landed_running c u runs))
+        (so (model.flowed u c) (flow_event u c.plain) (lands c u))
 
 -- ---- a core that runs
 
@@ -84,7 +91,8 @@ ended_by x f is none =
 
 pub running_by : (x : Plain) (b : Bool) → x.status ≡ Running → has_ended x ≡ b → is_running x ≡ not b
 running_by x b status ended =
-    ap (λ (s : Status). elim s as (λ _. Bool) [ Idle ↦ false | Running ↦ not (has_ended x) | Trapped t at ↦ false ]) status ∙ ap not ended
+    ap (λ (s : Status). elim s as (λ _. Bool) [ Idle ↦ false | Running ↦ not (has_ended x) | Trapped t at ↦ false ])
+    status ∙ ap not ended
 
 -- a flow that is not due is no end
 pub waits_on : (x : Plain) → is_due_flow x.flow ≡ false → has_ended x ≡ false
@@ -100,18 +108,20 @@ waits_on x = by x.flow
         by true = e
         by false = refl
 
-    by : (flow : Option Flow) → is_due_flow flow ≡ false → (elim flow as (λ _. Bool) [ None ↦ false | Some f ↦ is_end f && (x.transfer.words == 0) ]) ≡ false
+    by : (flow : Option Flow) → is_due_flow flow ≡ false
+        → (elim flow as (λ _. Bool) [ None ↦ false | Some f ↦ is_end f && (x.transfer.words == 0) ]) ≡ false
     by None e = refl
     by (Some f) e = ap (λ b. b && (x.transfer.words == 0)) (slow f.goal f.slots e)
 
 -- ---- a flow that is due
 
 -- no function starts at word 0
-abbrev pub StartsBehind : Parts → Type 0
-StartsBehind image = list_any (λ start. 0 == start) image.starts ≡ false
+abbrev pub StartsAfter : Parts → Type 0
+StartsAfter image = list_any (λ start. 0 == start) image.starts ≡ false
 
 -- a flow to a place of the image is no end
-goal_end : (image : Parts) (base : ℕ) (to : Goal) → StartsBehind image → is_place image base to ≡ true → is_end (record { goal = to; slots = 0 }) ≡ false
+goal_end : (image : Parts) (base : ℕ) (to : Goal) → StartsAfter image → is_place image base to ≡ true
+    → is_end (record { goal = to; slots = 0 }) ≡ false
 goal_end image base (goal.Within offset) behind placed = refl
 goal_end image base (goal.Call target) behind placed = refl
 goal_end image base (goal.Fill target) behind placed = refl
@@ -121,7 +131,8 @@ goal_end image base (goal.Return back offset) behind placed = by (back == 0) ref
     by false is = ap (λ t. t && (0 == 0)) is
     by true is =
         let here : list_any (λ start. 0 == start) image.starts ≡ true =
-        ap (λ k. list_any (λ start. k == start) image.starts) (sym (eqb-true back 0 is)) ∙ (and_parts (list_any (λ start. back == start) image.starts) _ placed).0 in
+        ap (λ k. list_any (λ start. k == start) image.starts) (sym (eqb-true back 0 is))
+        ∙ (and_parts (list_any (λ start. back == start) image.starts) _ placed).0 in
         absurd (true≢false (sym here ∙ behind))
 
 -- whether a goal is due
@@ -135,7 +146,8 @@ due_case (Some f) = by f.slots refl
   where
     by : (slots : ℕ) → f.slots ≡ slots → DueCase (Some f)
     by zero is = is_due f.goal (ap (λ k. due_in k f.goal) is) (ap (λ k. Some (record { goal = f.goal; slots = k })) is)
-    by (suc slots) is = none_due (ap (λ k. due_in k f.goal) is) (ap (λ k. k == 0) is ∙ ne_eqb (suc slots) 0 (λ e. omega (arith, e)))
+    by (suc slots) is =
+        none_due (ap (λ k. due_in k f.goal) is) (ap (λ k. k == 0) is ∙ ne_eqb (suc slots) 0 (λ e. omega (arith, e)))
 
 -- a core and a walk that are at one place, with their transfers done
 pub record Meets (site : Site) (u : ℕ) (w : Walk) (c : Core) : Type 0 where
@@ -160,12 +172,18 @@ pub record LiesBy (site : Site) (u : ℕ) (to : Option Goal) (w : Walk) (c : Cor
 
 module _ (site : Site) (u : ℕ) where
   free_test : (w : Walk) (c : Core) → Meets site u w c → is_free u c.plain ≡ true
-  free_test w c h = and_from (c.plain.transfer.words == 0) (c.plain.free == u) (eq-eqb c.plain.transfer.words 0 h.words) (eq-eqb c.plain.free u h.free)
+  free_test w c h = and_from (c.plain.transfer.words == 0) (c.plain.free == u) (eq-eqb c.plain.transfer.words 0 h.words)
+      (eq-eqb c.plain.free u h.free)
 
   -- nothing is due
   rests_on : (w : Walk) (c : Core) → Meets site u w c → is_due_flow w.flow ≡ false → LiesBy site u None w c
   rests_on w c h waits = record {
-    lies = subst (Lies site w) (sym same) (record { goes = h.goes; site_is = h.site_is; status = h.status; rests = inl h.words });
+    lies = subst (Lies site w) (sym same) (record {
+      goes = h.goes;
+      site_is = h.site_is;
+      status = h.status;
+      rests = inl h.words;
+    });
     events = ap (λ b. elim b as (λ _. List Event) [ true ↦ flow_event u c.plain | false ↦ [] ]) runs ∙ none;
     settled = waits;
   }
@@ -182,7 +200,11 @@ module _ (site : Site) (u : ℕ) where
       no_event : (flow : Option Flow) → is_due_flow flow ≡ false → elim flow as (λ _. List Event) [
         | None ↦ []
         | Some f ↦ elim (f.slots == 0) as (λ _. List Event) [
-          | true ↦ elim (is_placed f.goal c.plain) as (λ _. List Event) [ true ↦ goal_event f.goal c.plain | false ↦ [] ]
+          | true ↦ elim (is_placed f.goal c.plain) as (λ _. List Event) [
+            | true ↦ goal_event f.goal c.plain
+            | false ↦
+                []
+          ]
           | false ↦ []
         ]
       ] ≡ []
@@ -197,22 +219,30 @@ module _ (site : Site) (u : ℕ) where
         | true ↦ elim c.plain.flow as (λ _. List Event) [
           | None ↦ []
           | Some f ↦ elim (f.slots == 0) as (λ _. List Event) [
-            | true ↦ elim (is_placed f.goal c.plain) as (λ _. List Event) [ true ↦ goal_event f.goal c.plain | false ↦ [] ]
+            | true ↦ elim (is_placed f.goal c.plain) as (λ _. List Event) [
+              | true ↦ goal_event f.goal c.plain
+              | false ↦
+                  []
+            ]
             | false ↦ []
           ]
         ]
         | false ↦ []
       ]) (free_test w c h) ∙ no_event c.plain.flow waits_there
 
-  gone_stack : (to : Goal) (w : Walk) (c : Core) → HoldsStack w.run c.plain.stack c.plain.private → HoldsStack (gone to w).run (model.gone to c).plain.stack (model.gone to c).plain.private
-  gone_stack (goal.Call target) w c h = record { is_stack = h.is_stack; st = h.st; ss = h.ss; held = h.held; spilled = h.spilled }
+  gone_stack : (to : Goal) (w : Walk) (c : Core) → HoldsStack w.run c.plain.stack c.plain.private
+      → HoldsStack (gone to w).run (model.gone to c).plain.stack (model.gone to c).plain.private
+  gone_stack (goal.Call target) w c h =
+      record { is_stack = h.is_stack; st = h.st; ss = h.ss; held = h.held; spilled = h.spilled }
   gone_stack _ w c h = h
 
-  gone_ports : (to : Goal) (w : Walk) (c : Core) → HoldsPorts w.run.memory c.plain.interface → HoldsPorts (gone to w).run.memory (model.gone to c).plain.interface
+  gone_ports : (to : Goal) (w : Walk) (c : Core) → HoldsPorts w.run.memory c.plain.interface
+      → HoldsPorts (gone to w).run.memory (model.gone to c).plain.interface
   gone_ports (goal.Within offset) w c h = h
   gone_ports _ w c h = h
 
-  gone_kept : (to : Goal) (c : Core) → ((model.gone to c).plain.site ≡ c.plain.site) × ((model.gone to c).plain.status ≡ c.plain.status)
+  gone_kept : (to : Goal) (c : Core) → ((model.gone to c).plain.site ≡ c.plain.site) × ((model.gone to c).plain.status
+      ≡ c.plain.status)
   gone_kept (goal.Within offset) c = (refl, refl)
   gone_kept _ c = (refl, refl)
 
@@ -221,27 +251,37 @@ module _ (site : Site) (u : ℕ) where
   gone_flow _ w = refl
 
   -- of a goal that is a place
-  events_of : (to : Goal) (x : Plain) → x.site.image ≡ site.image → is_end (record { goal = to; slots = 0 }) ≡ false → goal_event to x ≡ goal_events site.image (Some to)
+  events_of : (to : Goal) (x : Plain) → x.site.image ≡ site.image → is_end (record { goal = to; slots = 0 }) ≡ false
+      → goal_event to x ≡ goal_events site.image (Some to)
   events_of (goal.Within offset) x is more = refl
   events_of (goal.Call target) x is more = ap (λ i. came (method_at i target) ∷ []) is
   events_of (goal.Fill target) x is more = ap (λ i. came (method_at i target) ∷ []) is
   events_of (goal.Return back offset) x is more = by (back == 0) refl
     where
-      by : (b : Bool) → (back == 0) ≡ b → came (method_at x.site.image back) ∷ [] ≡ (if back == 0 then [] else came (method_at site.image back) ∷ [])
+      by : (b : Bool) → (back == 0) ≡ b → came (method_at x.site.image back) ∷ []
+          ≡ (if back == 0 then [] else came (method_at site.image back) ∷ [])
       by true same = absurd (true≢false (sym (ap (λ t. t && (0 == 0)) same) ∙ more))
-      by false same = ap (λ i. came (method_at i back) ∷ []) is ∙ sym (ap (λ t. if t then [] else came (method_at site.image back) ∷ []) same)
+      by false same = ap (λ i. came (method_at i back) ∷ []) is
+          ∙ sym (ap (λ t. if t then [] else came (method_at site.image back) ∷ []) same)
 
   -- a goal is due
-  lands_on : (to : Goal) (w : Walk) (c : Core) → Meets site u w c → StartsBehind site.image → w.flow ≡ Some (record { goal = to; slots = 0 }) → is_place site.image w.base to ≡ true → LiesBy site u (Some to) (gone to w) c
+  lands_on : (to : Goal) (w : Walk) (c : Core) → Meets site u w c → StartsAfter site.image → w.flow
+      ≡ Some (record { goal = to; slots = 0 }) → is_place site.image w.base to ≡ true
+      → LiesBy site u (Some to) (gone to w) c
   unfolding model.flowed
   lands_on to w c h behind flow placed = record {
     lies = subst (Lies site (gone to w)) (sym there) (record {
-      goes = record { is_as = gone_alike to c w h.goes.is_as; stack = gone_stack to w c h.goes.stack; ports = gone_ports to w c h.goes.ports };
+      goes = record {
+        is_as = gone_alike to c w h.goes.is_as;
+        stack = gone_stack to w c h.goes.stack;
+        ports = gone_ports to w c h.goes.ports;
+      };
       site_is = (gone_kept to c).0 ∙ h.site_is;
       status = (gone_kept to c).1 ∙ h.status;
       rests = gone_rests to c (inl h.words);
     });
-    events = ap (λ b. elim b as (λ _. List Event) [ true ↦ flow_event u c.plain | false ↦ [] ]) runs ∙ one ∙ events_of to c.plain (ap (λ (s : Site). s.image) h.site_is) (goal_end site.image w.base to behind placed);
+    events = ap (λ b. elim b as (λ _. List Event) [ true ↦ flow_event u c.plain | false ↦ [] ]) runs ∙ one
+        ∙ events_of to c.plain (ap (λ (s : Site). s.image) h.site_is) (goal_end site.image w.base to behind placed);
     settled = gone_flow to w;
   }
     where
@@ -249,7 +289,8 @@ module _ (site : Site) (u : ℕ) where
       flow_there = sym h.goes.is_as.flow ∙ flow
 
       runs : is_running c.plain ≡ true
-      runs = running_by c.plain false h.status (ended_by c.plain (record { goal = to; slots = 0 }) flow_there h.words ∙ goal_end site.image w.base to behind placed)
+      runs = running_by c.plain false h.status (ended_by c.plain (record { goal = to; slots = 0 }) flow_there h.words
+          ∙ goal_end site.image w.base to behind placed)
 
       placed_there : is_placed to c.plain ≡ true
       placed_there = placed_alike to c.plain ∙ (λ i. is_place (h.site_is i).image (sym h.goes.is_as.base i) to) ∙ placed
@@ -260,11 +301,20 @@ module _ (site : Site) (u : ℕ) where
           flows_due : model.flowed u c ≡ model.gone to c
           flows_due =
               ap (λ b. elim b as (λ _. Core) [
-                | true ↦ elim c.plain.flow as (λ _. Core) [ None ↦ c | Some f ↦ elim (f.slots == 0) as (λ _. Core) [ true ↦ taken u f.goal c | false ↦ c ] ]
+                | true ↦ elim c.plain.flow as (λ _. Core) [
+                  | None ↦ c
+                  | Some f ↦ elim (f.slots == 0) as (λ _. Core)
+                      [ true ↦ taken u f.goal c | false ↦ c ]
+                ]
                 | false ↦ c
               ]) (free_test w c h)
-              ∙ ap (λ flow. elim flow as (λ _. Core) [ None ↦ c | Some f ↦ elim (f.slots == 0) as (λ _. Core) [ true ↦ taken u f.goal c | false ↦ c ] ]) flow_there
-              ∙ ap (λ b. elim b as (λ _. Core) [ true ↦ model.gone to c | false ↦ with_plain (stopped trap.Flow u) c ]) placed_there
+              ∙ ap (λ flow. elim flow as (λ _. Core) [
+                | None ↦ c
+                | Some f ↦ elim (f.slots == 0) as (λ _. Core)
+                    [ true ↦ taken u f.goal c | false ↦ c ]
+              ]) flow_there
+              ∙ ap (λ b. elim b as (λ _. Core) [ true ↦ model.gone to c | false ↦ with_plain (stopped trap.Flow u) c ])
+              placed_there
 
       there : landed u c ≡ model.gone to c
       there = landed_running c u runs ∙ goes_there
@@ -275,7 +325,8 @@ module _ (site : Site) (u : ℕ) where
             | true ↦ elim c.plain.flow as (λ _. List Event) [
               | None ↦ []
               | Some f ↦ elim (f.slots == 0) as (λ _. List Event) [
-                | true ↦ elim (is_placed f.goal c.plain) as (λ _. List Event) [ true ↦ goal_event f.goal c.plain | false ↦ [] ]
+                | true ↦ elim (is_placed f.goal c.plain) as (λ _. List Event)
+                    [ true ↦ goal_event f.goal c.plain | false ↦ [] ]
                 | false ↦ []
               ]
             ]
@@ -284,24 +335,37 @@ module _ (site : Site) (u : ℕ) where
           ∙ ap (λ flow. elim flow as (λ _. List Event) [
             | None ↦ []
             | Some f ↦ elim (f.slots == 0) as (λ _. List Event) [
-              | true ↦ elim (is_placed f.goal c.plain) as (λ _. List Event) [ true ↦ goal_event f.goal c.plain | false ↦ [] ]
+              | true ↦ elim (is_placed f.goal c.plain) as (λ _. List Event) [
+                | true ↦ goal_event f.goal c.plain
+                | false ↦
+                    []
+              ]
               | false ↦ []
             ]
           ]) flow_there
           ∙ ap (λ b. elim b as (λ _. List Event) [ true ↦ goal_event to c.plain | false ↦ [] ]) placed_there
 
   -- what is due takes effect, where it is a place
-  pub lands_as : (w : Walk) (c : Core) → Meets site u w c → StartsBehind site.image → IsPlaced site.image w → LiesBy site u (due w.flow) (flowed w) c
+  pub lands_as : (w : Walk) (c : Core) → Meets site u w c → StartsAfter site.image → IsPlaced site.image w
+      → LiesBy site u (due w.flow) (flowed w) c
   lands_as w c h behind placed = by (due_case w.flow)
     where
       by : DueCase w.flow → LiesBy site u (due w.flow) (flowed w) c
       by (none_due none waits) = subst (λ o. LiesBy site u o (gone_if o w) c) (sym none) (rests_on w c h waits)
-      by (is_due to due_is flow) = subst (λ o. LiesBy site u o (gone_if o w) c) (sym due_is) (lands_on to w c h behind flow (subst (HasPlace site.image w.base) due_is placed))
+      by (is_due to due_is flow) = subst (λ o. LiesBy site u o (gone_if o w) c) (sym due_is)
+          (lands_on to w c h behind flow (subst (HasPlace site.image w.base) due_is placed))
 
   -- a return to base 0 is the end
-  pub ends_there : (w : Walk) (c : Core) (offset : ℕ) → Meets site u w c → w.flow ≡ Some (record { goal = goal.Return 0 offset; slots = 0 })
+  pub ends_there : (w : Walk) (c : Core) (offset : ℕ) → Meets site u w c → w.flow
+      ≡ Some (record { goal = goal.Return 0 offset; slots = 0 })
       → (has_ended c.plain ≡ true) × ((landed u c ≡ c) × (landing_event u c.plain ≡ []))
   ends_there w c offset h flow =
-      let ended : has_ended c.plain ≡ true = ended_by c.plain (record { goal = goal.Return 0 offset; slots = 0 }) (sym h.goes.is_as.flow ∙ flow) h.words in
-      let still : is_running c.plain ≡ false = running_by c.plain true h.status ended in
-      (ended, (landed_stopped c u still, ap (λ b. elim b as (λ _. List Event) [ true ↦ flow_event u c.plain | false ↦ [] ]) still))
+      let ended : has_ended c.plain ≡ true = ended_by c.plain (record { goal = goal.Return 0 offset; slots = 0 })
+      (sym h.goes.is_as.flow ∙ flow) h.words in
+      let still : is_running c.plain ≡ false = running_by c.plain true h.status ended in (
+        ended,
+        (
+          landed_stopped c u still,
+          ap (λ b. elim b as (λ _. List Event) [ true ↦ flow_event u c.plain | false ↦ [] ]) still,
+        ),
+      )

@@ -53,11 +53,13 @@ stack_with _ x = x.stack
 
 -- a word is stored, where the cell is one of this memory
 abbrev pub scratch_at : Option Cell → StoreWidth → ℕ → ℕ → Plain → ℕ → ℕ
-scratch_at (Some (cell.Scratch word)) width address value x = put word (merged width address (x.scratch word) value) x.scratch
+scratch_at (Some (cell.Scratch word)) width address value x =
+    put word (merged width address (x.scratch word) value) x.scratch
 scratch_at _ width address value x = x.scratch
 
 abbrev pub private_at : Option Cell → StoreWidth → ℕ → ℕ → Plain → ℕ → ℕ
-private_at (Some (cell.Private word)) width address value x = put word (merged width address (x.private word) value) x.private
+private_at (Some (cell.Private word)) width address value x =
+    put word (merged width address (x.private word) value) x.private
 private_at _ width address value x = x.private
 
 abbrev pub port_at : Option Cell → ℕ → Core → Core
@@ -80,7 +82,10 @@ port_with _ c = c
 
 -- with the interface and the sendings of another core
 abbrev pub sent_as : Core → Core → Core
-sent_as p c = record { plain = record c.plain { interface = p.plain.interface }; seen = record c.seen { sendings = p.seen.sendings } }
+sent_as p c = record {
+  plain = record c.plain { interface = p.plain.interface };
+  seen = record c.seen { sendings = p.seen.sendings };
+}
 
 abbrev pub did : Effect → ℕ → Core → Core
 did e value c = sent_as (port_with e c) (with_plain (λ x. record x {
@@ -106,12 +111,29 @@ pub record IsLike (x c : Core) : Type 0 where
   pub ports : SamePorts x.plain.interface c.plain.interface
   pub sendings : c.seen.sendings ≡ x.seen.sendings
 
-like_but : (x : Core) {interface : Interface} {transfer : Transfer} {free : ℕ} {seen : History} → SamePorts x.plain.interface interface → seen.sendings ≡ x.seen.sendings
-    → IsLike x (record { plain = record x.plain { interface = interface; transfer = transfer; free = free }; seen = seen })
+like_but : (x : Core) {interface : Interface} {transfer : Transfer} {free : ℕ} {seen : History}
+    → SamePorts x.plain.interface interface → seen.sendings ≡ x.seen.sendings
+    → IsLike x (record {
+      plain = record x.plain { interface = interface; transfer = transfer; free = free };
+      seen = seen;
+    })
 like_but x ports sendings =
-    record { site = refl; status = refl; regs = refl; base = refl; offset = refl; flow = refl; stack = refl; scratch = refl; private = refl; ports = ports; sendings = sendings }
+    record {
+      site = refl;
+      status = refl;
+      regs = refl;
+      base = refl;
+      offset = refl;
+      flow = refl;
+      stack = refl;
+      scratch = refl;
+      private = refl;
+      ports = ports;
+      sendings = sendings;
+    }
 
-like : (x : Core) {transfer : Transfer} {free : ℕ} {seen : History} → seen.sendings ≡ x.seen.sendings → IsLike x (record { plain = record x.plain { transfer = transfer; free = free }; seen = seen })
+like : (x : Core) {transfer : Transfer} {free : ℕ} {seen : History} → seen.sendings ≡ x.seen.sendings
+    → IsLike x (record { plain = record x.plain { transfer = transfer; free = free }; seen = seen })
 like x sendings = like_but x (same_ports x.plain.interface) sendings
 
 like_then : (x c d : Core) → IsLike x c → IsLike c d → IsLike x d
@@ -145,28 +167,35 @@ Given _ x value = Unit {0}
 
 -- a line of private memory
 abbrev pub IsLineOf : Option Cell → Plain → List ℕ → Type 0
-IsLineOf (Some (cell.Private word)) x line = line ≡ x.private word ∷ x.private (word + 1) ∷ x.private (word + 2) ∷ x.private (word + 3) ∷ []
+IsLineOf (Some (cell.Private word)) x line =
+    line ≡ x.private word ∷ x.private (word + 1) ∷ x.private (word + 2) ∷ x.private (word + 3) ∷ []
 IsLineOf _ x line = Unit {0}
 
 -- a cached load finds its word, or takes its line
 pub data LoadsLine (place : Option Cell) (c : Core) (address value : ℕ) (cached : List cache.Access) : Type 0 where
-  hits : cache.cached_word c.seen.cached address ≡ Some value → cached ≡ c.seen.cached ++ cache.Load address None ∷ [] → LoadsLine place c address value cached
-  misses : (line : List ℕ) → IsLineOf place c.plain line → value ≡ slice_index line (cache.place_of address) → cached ≡ c.seen.cached ++ cache.Load address (Some line) ∷ []
+  hits : cache.cached_word c.seen.cached address ≡ Some value → cached ≡ c.seen.cached ++ cache.Load address None ∷ []
+      → LoadsLine place c address value cached
+  misses : (line : List ℕ) → IsLineOf place c.plain line → value ≡ slice_index line (cache.place_of address) → cached
+      ≡ c.seen.cached ++ cache.Load address (Some line) ∷ []
       → LoadsLine place c address value cached
 
 abbrev pub Caches : Effect → Core → ℕ → List cache.Access → Type 0
-Caches (effect.Load mem.C width rd address) c value cached = LoadsLine (cell_of Main (line_address address)) c address value cached
-Caches (effect.Store mem.C width address stored) c value cached = cached ≡ (with_store true width address stored c.seen).cached
+Caches (effect.Load mem.C width rd address) c value cached =
+    LoadsLine (cell_of Main (line_address address)) c address value cached
+Caches (effect.Store mem.C width address stored) c value cached =
+    cached ≡ (with_store true width address stored c.seen).cached
 Caches _ c value cached = cached ≡ c.seen.cached
 
 -- a word of the board was loaded, or stored
 abbrev pub MadeLoad : Option Cell → ℕ → ℕ → List Operation → List Operation → Type 0
-MadeLoad (Some (cell.Comm word)) core value before ops = (s : ℕ) × (ops ≡ before ++ load s (comm_word core word) value ∷ [])
+MadeLoad (Some (cell.Comm word)) core value before ops =
+    (s : ℕ) × (ops ≡ before ++ load s (comm_word core word) value ∷ [])
 MadeLoad (Some (cell.Shared word)) core value before ops = (s : ℕ) × (ops ≡ before ++ load s word value ∷ [])
 MadeLoad _ core value before ops = ops ≡ before
 
 abbrev pub MadeStore : Option Cell → ℕ → ℕ → List Operation → List Operation → Type 0
-MadeStore (Some (cell.Comm word)) core value before ops = (s : ℕ) × (ops ≡ before ++ store s (comm_word core word) value ∷ [])
+MadeStore (Some (cell.Comm word)) core value before ops =
+    (s : ℕ) × (ops ≡ before ++ store s (comm_word core word) value ∷ [])
 MadeStore (Some (cell.Shared word)) core value before ops = (s : ℕ) × (ops ≡ before ++ store s word value ∷ [])
 MadeStore _ core value before ops = ops ≡ before
 
@@ -178,16 +207,21 @@ MadeLine _ before ops = Unit {0}
 abbrev pub Made : Effect → ℕ → ℕ → List Operation → List Operation → Type 0
 Made (effect.Load mem.L width rd address) core value before ops = MadeLoad (cell_of Local address) core value before ops
 Made (effect.Load mem.M width rd address) core value before ops = MadeLoad (cell_of Main address) core value before ops
-Made (effect.Load mem.C width rd address) core value before ops = MadeLine (cell_of Main (line_address address)) before ops
-Made (effect.Store mem.L width address stored) core value before ops = MadeStore (cell_of Local address) core stored before ops
-Made (effect.Store mem.C width address stored) core value before ops = MadeStore (cell_of Main address) core stored before ops
-Made (effect.Store mem.M width address stored) core value before ops = MadeStore (cell_of Main address) core stored before ops
+Made (effect.Load mem.C width rd address) core value before ops =
+    MadeLine (cell_of Main (line_address address)) before ops
+Made (effect.Store mem.L width address stored) core value before ops =
+    MadeStore (cell_of Local address) core stored before ops
+Made (effect.Store mem.C width address stored) core value before ops =
+    MadeStore (cell_of Main address) core stored before ops
+Made (effect.Store mem.M width address stored) core value before ops =
+    MadeStore (cell_of Main address) core stored before ops
 Made _ core value before ops = ops ≡ before
 
 -- ---- the outcome
 
 -- over what is said of the value, of the core, of the data cache and of the operations
-pub record Comes (Gives : ℕ → Type 0) (x : ℕ → Core) (Has : ℕ → List cache.Access → Type 0) (Makes : ℕ → List Operation → Type 0) (c : Core) (ops : List Operation) : Type 0 where
+pub record Comes (Gives : ℕ → Type 0) (x : ℕ → Core) (Has : ℕ → List cache.Access → Type 0)
+    (Makes : ℕ → List Operation → Type 0) (c : Core) (ops : List Operation) : Type 0 where
   pub value : ℕ
   pub given : Gives value
   pub is_like : IsLike (x value) c
@@ -195,9 +229,11 @@ pub record Comes (Gives : ℕ → Type 0) (x : ℕ → Core) (Has : ℕ → List
   pub made : Makes value ops
 
 abbrev pub Outcome : Effect → Core → List Operation → Core → List Operation → Type 0
-Outcome e d before = Comes (Given e d.plain) (λ value. did e value d) (Caches e d) (λ value ops. Made e d.plain.site.core value before ops)
+Outcome e d before = Comes (Given e d.plain) (λ value. did e value d) (Caches e d)
+    (λ value ops. Made e d.plain.site.core value before ops)
 
-comes_of_both : (Gives : ℕ → Type 0) (x : ℕ → Core) (Has : ℕ → List cache.Access → Type 0) (Makes : ℕ → List Operation → Type 0) → OfBoth (Comes Gives x Has Makes)
+comes_of_both : (Gives : ℕ → Type 0) (x : ℕ → Core) (Has : ℕ → List cache.Access → Type 0)
+    (Makes : ℕ → List Operation → Type 0) → OfBoth (Comes Gives x Has Makes)
 comes_of_both Gives x Has Makes = record {
   same = λ c d ops is h. subst (λ z. Comes Gives x Has Makes z ops) (sym is.task) (record {
     value = h.value;
@@ -206,11 +242,19 @@ comes_of_both Gives x Has Makes = record {
     cached = h.cached;
     made = h.made;
   });
-  counts = λ u c ops h. record { value = h.value; given = h.given; is_like = like_then (x h.value) c (counted u c) h.is_like (like c refl); cached = h.cached; made = h.made };
+  counts = λ u c ops h. record {
+    value = h.value;
+    given = h.given;
+    is_like = like_then (x h.value) c
+        (counted u c) h.is_like (like c refl);
+    cached = h.cached;
+    made = h.made;
+  };
 }
 
 pub outcome_of_both : (e : Effect) (d : Core) (before : List Operation) → OfBoth (Outcome e d before)
-outcome_of_both e d before = comes_of_both (Given e d.plain) (λ value. did e value d) (Caches e d) (λ value ops. Made e d.plain.site.core value before ops)
+outcome_of_both e d before = comes_of_both (Given e d.plain) (λ value. did e value d) (Caches e d)
+    (λ value ops. Made e d.plain.site.core value before ops)
 
 -- without an operation
 no_line_made : (place : Option Cell) (before : List Operation) → MadeLine place before before
@@ -221,7 +265,8 @@ no_line_made _ before = tt
 abbrev Silent : ℕ → Type 0
 Silent value = Unit {0}
 
-module _ (site : Site) (u s : ℕ) (p : Pointers) (k : Memory) (d : Core) (before : List Operation) (idle : d.plain.transfer.words ≡ 0) where
+module _ (site : Site) (u s : ℕ) (p : Pointers) (k : Memory) (d : Core) (before : List Operation)
+    (idle : d.plain.transfer.words ≡ 0) where
   abbrev core : ℕ
   core = d.plain.site.core
 
@@ -229,71 +274,127 @@ module _ (site : Site) (u s : ℕ) (p : Pointers) (k : Memory) (d : Core) (befor
   abbrev waiting : Transfer → Interface → Core
   waiting t i = record { plain = record d.plain { transfer = t; interface = i }; seen = d.seen }
 
-  once : (P : Core → List Operation → Type 0) (t : Transfer) → ((v at : ℕ) (i : Interface) → SamePorts d.plain.interface i → LeavesBy (Done P) at (transaction_then t.then v (waiting t i)) before)
+  once : (P : Core → List Operation → Type 0) (t : Transfer) → ((v at : ℕ) (i : Interface)
+      → SamePorts d.plain.interface i → LeavesBy (Done P) at (transaction_then t.then v (waiting t i)) before)
       → AfterOneBy P (with_plain (λ x. record x { transfer = t }) d) before
   unfolding transaction
-  once P t next = λ v at x is. subst (λ (z : Core). LeavesBy (Done P) at (transaction_then z.plain.transfer.then v z) before) (sym is.task) (next v at x.plain.interface is.ports)
+  once P t next = λ v at x is. subst (λ (z : Core). LeavesBy (Done P) at (transaction_then z.plain.transfer.then v z)
+      before) (sym is.task) (next v at x.plain.interface is.ports)
 
   -- ---- loads
 
   -- a value is on its way into a register, where all else is as it was
   abbrev Loaded : (ℕ → Type 0) → Width → ℕ → ℕ → (ℕ → List Operation → Type 0) → Core → List Operation → Type 0
-  Loaded Gives width rd address Makes = Comes Gives (λ value. with_plain (with_value rd width address value) d) (λ value cached. cached ≡ d.seen.cached) Makes
+  Loaded Gives width rd address Makes = Comes Gives (λ value. with_plain (with_value rd width address value) d)
+      (λ value cached. cached ≡ d.seen.cached) Makes
 
   local_loaded : (width : Width) (rd address : ℕ) (place : Option Cell) → IsLocalLoadable place
-      → LeavesBy (Done (SettlesBy (Loaded (IsWordOf place d.plain) width rd address (λ value ops. MadeLoad place core value before ops)))) s
+      → LeavesBy (Done (SettlesBy (Loaded (IsWordOf place d.plain) width rd address
+      (λ value ops. MadeLoad place core value before ops)))) s
       (reading place d.plain (λ word. now (with_plain (λ x. ends u (with_value rd width address word x)) d))) before
   local_loaded width rd address None l = absurd l
   local_loaded width rd address (Some (cell.Port target register)) l = absurd l
   local_loaded width rd address (Some (cell.Private word)) l = absurd l
   local_loaded width rd address (Some (cell.Shared word)) l = absurd l
-  local_loaded width rd address (Some (cell.Scratch word)) l =
-      (refl, settled_by (record { value = d.plain.scratch word; given = refl; is_like = like (with_plain (with_value rd width address (d.plain.scratch word)) d) refl; cached = refl; made = refl }) (inl idle))
+  local_loaded width rd address (Some (cell.Scratch word)) l = (
+    refl,
+    settled_by (record {
+      value = d.plain.scratch word;
+      given = refl;
+      is_like = like
+          (with_plain (with_value rd width address (d.plain.scratch word)) d) refl;
+      cached =
+          refl;
+      made = refl;
+    }) (inl idle),
+  )
   local_loaded width rd address (Some (cell.Comm word)) l =
-      λ value. (refl, settled_by (record { value = value; given = tt; is_like = like (with_plain (with_value rd width address value) d) refl; cached = refl; made = (s, refl) }) (inl idle))
+      λ value. (
+        refl,
+        settled_by (record {
+          value = value;
+          given = tt;
+          is_like = like (with_plain (with_value rd width address value)
+              d) refl;
+          cached = refl;
+          made = (s, refl);
+        }) (inl idle),
+      )
 
-  main_loaded : (t : Transfer) (width : Width) (rd address v at : ℕ) (i : Interface) → SamePorts d.plain.interface i → (place : Option Cell) → IsMainLoadable place
-      → LeavesBy (Done (Loaded (IsWordOf place d.plain) width rd address (λ value ops. MadeLoad place core value before ops))) at
-      (reading place (waiting t i).plain (λ word. now (with_plain (with_value rd width address word) (counted v (waiting t i))))) before
+  main_loaded : (t : Transfer) (width : Width) (rd address v at : ℕ) (i : Interface) → SamePorts d.plain.interface i
+      → (place : Option Cell) → IsMainLoadable place
+      → LeavesBy (Done (Loaded (IsWordOf place d.plain) width rd address
+      (λ value ops. MadeLoad place core value before ops))) at
+      (reading place (waiting t i).plain (λ word. now (with_plain (with_value rd width address word)
+      (counted v (waiting t i))))) before
   main_loaded t width rd address v at i ports None l = absurd l
   main_loaded t width rd address v at i ports (Some (cell.Scratch word)) l = absurd l
   main_loaded t width rd address v at i ports (Some (cell.Comm word)) l = absurd l
   main_loaded t width rd address v at i ports (Some (cell.Port target register)) l = absurd l
-  main_loaded t width rd address v at i ports (Some (cell.Private word)) l =
-      (refl, record { value = d.plain.private word; given = refl; is_like = like_but (with_plain (with_value rd width address (d.plain.private word)) d) ports refl; cached = refl; made = refl })
+  main_loaded t width rd address v at i ports (Some (cell.Private word)) l = (
+    refl,
+    record {
+      value = d.plain.private word;
+      given = refl;
+      is_like = like_but
+          (with_plain (with_value rd width address (d.plain.private word)) d) ports refl;
+      cached = refl;
+      made = refl;
+    },
+  )
   main_loaded t width rd address v at i ports (Some (cell.Shared word)) l =
-      λ value. (refl, record { value = value; given = tt; is_like = like_but (with_plain (with_value rd width address value) d) ports refl; cached = refl; made = (at, refl) })
+      λ value. (
+        refl,
+        record {
+          value = value;
+          given = tt;
+          is_like = like_but
+              (with_plain (with_value rd width address value) d) ports refl;
+          cached = refl;
+          made = (at, refl);
+        },
+      )
 
   abbrev Line : Option Cell → Width → ℕ → ℕ → Core → List Operation → Type 0
   Line place width rd address =
-      Comes Silent (λ value. with_plain (with_value rd width address value) d) (λ value cached. LoadsLine place d address value cached) (λ value ops. MadeLine place before ops)
+      Comes Silent (λ value. with_plain (with_value rd width address value) d)
+      (λ value cached. LoadsLine place d address value cached) (λ value ops. MadeLine place before ops)
 
-  line_comes : (place : Option Cell) (t : Transfer) (width : Width) (rd address v : ℕ) (i : Interface) → SamePorts d.plain.interface i → (line : List ℕ) → IsLineOf place d.plain line → (ops : List Operation)
-      → MadeLine place before ops → Line place width rd address (line_taken rd width address line (counted v (waiting t i))) ops
+  line_comes : (place : Option Cell) (t : Transfer) (width : Width) (rd address v : ℕ) (i : Interface)
+      → SamePorts d.plain.interface i → (line : List ℕ) → IsLineOf place d.plain line → (ops : List Operation)
+      → MadeLine place before ops → Line place width rd address (line_taken rd width address line
+      (counted v (waiting t i))) ops
   line_comes place t width rd address v i ports line of ops made = record {
     value = slice_index line (cache.place_of address);
     given = tt;
-    is_like = like_but (with_plain (with_value rd width address (slice_index line (cache.place_of address))) d) ports refl;
+    is_like = like_but (with_plain (with_value rd width address (slice_index line (cache.place_of address))) d) ports
+        refl;
     cached = misses line of refl refl;
     made = made;
   }
 
-  line_loaded : (place : Option Cell) (t : Transfer) (width : Width) (rd address v at : ℕ) (i : Interface) → SamePorts d.plain.interface i
-      → LeavesBy (Done (Line place width rd address)) at (reading_line place (waiting t i).plain (λ line. now (line_taken rd width address line (counted v (waiting t i))))) before
+  line_loaded : (place : Option Cell) (t : Transfer) (width : Width) (rd address v at : ℕ) (i : Interface)
+      → SamePorts d.plain.interface i
+      → LeavesBy (Done (Line place width rd address)) at (reading_line place (waiting t i).plain
+      (λ line. now (line_taken rd width address line (counted v (waiting t i))))) before
   line_loaded (Some (cell.Private word)) t width rd address v at i ports =
-      let f : ℕ → ℕ = d.plain.private in
-      (refl, line_comes (Some (cell.Private word)) t width rd address v i ports (f word ∷ f (word + 1) ∷ f (word + 2) ∷ f (word + 3) ∷ []) refl before refl)
+      let f : ℕ → ℕ = d.plain.private in (
+        refl,
+        line_comes (Some (cell.Private word)) t width rd address v i ports (f word ∷ f (word + 1) ∷ f (word + 2)
+            ∷ f (word + 3) ∷ []) refl before refl,
+      )
   line_loaded (Some (cell.Shared word)) t width rd address v at i ports =
       λ a b c e. (refl, line_comes (Some (cell.Shared word)) t width rd address v i ports (a ∷ b ∷ c ∷ e ∷ []) tt _ tt)
   line_loaded _ t width rd address v at i ports = (refl, line_comes _ t width rd address v i ports no_line tt before tt)
 
-  by_cache : (width : Width) (rd address : ℕ) (found : Option ℕ) → cache.cached_word d.seen.cached address ≡ found → SettlesBy (Outcome (effect.Load mem.C width rd address) d before) (elim found as (λ _. Core) [
-    | None ↦ with_plain (moves (reads 4 (then_on.Line rd width address)) u) d
-    | Some word ↦ record {
-      plain = ends u (with_value rd width address word d.plain);
-      seen = record d.seen { cached = d.seen.cached ++ cache.Load address None ∷ [] };
-    }
-  ]) before
+  by_cache : (width : Width) (rd address : ℕ) (found : Option ℕ) → cache.cached_word d.seen.cached address ≡ found
+      → SettlesBy (Outcome (effect.Load mem.C width rd address) d before) (elim found as (λ _. Core) [
+        | None ↦ with_plain (moves (reads 4 (then_on.Line rd width address)) u) d
+        | Some word ↦ record {
+          plain = ends u (with_value rd width address word d.plain);
+          seen = record d.seen { cached = d.seen.cached ++ cache.Load address None ∷ [] };
+        }
+      ]) before
   by_cache width rd address (Some word) hit = settled_by (record {
     value = word;
     given = tt;
@@ -303,58 +404,128 @@ module _ (site : Site) (u s : ℕ) (p : Pointers) (k : Memory) (d : Core) (befor
   }) (inl idle)
   by_cache width rd address None missed =
       let t : Transfer = reads 4 (then_on.Line rd width address) in
-      awaits_by refl (once (Outcome (effect.Load mem.C width rd address) d before) t (λ v at i ports. line_loaded (cell_of Main (line_address address)) t width rd address v at i ports))
+      awaits_by refl (once (Outcome (effect.Load mem.C width rd address) d before) t (λ v at i ports. line_loaded
+      (cell_of Main (line_address address)) t width rd address v at i ports))
 
   -- ---- stores
 
-  local_stored : (width : StoreWidth) (address value : ℕ) → width ≡ store_width.Word → (place : Option Cell) → IsLocalStorable site k value place
-      → LeavesBy (Done (SettlesBy (Comes Silent (λ given. sent_as (port_at place value d) (with_plain (λ x. record x { scratch = scratch_at place width address value x }) d)) (λ given cached. cached ≡ d.seen.cached)
-      (λ given ops. MadeStore place core value before ops)))) s (writing place width address value (with_plain (ends u) d)) before
+  local_stored : (width : StoreWidth) (address value : ℕ) → width ≡ store_width.Word → (place : Option Cell)
+      → IsLocalStorable site k value place
+      → LeavesBy (Done
+      (SettlesBy (Comes Silent (λ given. sent_as (port_at place value d)
+      (with_plain (λ x. record x { scratch = scratch_at place width address value x }) d))
+      (λ given cached. cached ≡ d.seen.cached)
+      (λ given ops. MadeStore place core value before ops)))) s (writing place width address value
+      (with_plain (ends u) d)) before
   local_stored width address value is None l = absurd l
   local_stored width address value is (Some (cell.Private word)) l = absurd l
   local_stored width address value is (Some (cell.Shared word)) l = absurd l
-  local_stored width address value is (Some (cell.Scratch word)) l =
-      (refl, settled_by (record { value = 0; given = tt; is_like = like (with_plain (λ x. record x { scratch = scratch_at (Some (cell.Scratch word)) width address value x }) d) refl; cached = refl; made = refl }) (inl idle))
+  local_stored width address value is (Some (cell.Scratch word)) l = (
+    refl,
+    settled_by
+        (record {
+          value = 0;
+          given = tt;
+          is_like = like
+              (with_plain (λ x. record x { scratch = scratch_at (Some (cell.Scratch word)) width address value x }) d)
+              refl;
+          cached = refl;
+          made = refl;
+        }) (inl idle),
+  )
   local_stored width address value is (Some (cell.Comm word)) l =
-      subst (λ w. LeavesBy (Done (SettlesBy (Comes Silent (λ given. d) (λ given cached. cached ≡ d.seen.cached) (λ given ops. MadeStore (Some (cell.Comm word)) core value before ops)))) s
-      (writing (Some (cell.Comm word)) w address value (with_plain (ends u) d)) before) (sym is)
-      (refl, settled_by (record { value = 0; given = tt; is_like = like d refl; cached = refl; made = (s, refl) }) (inl idle))
+      subst (λ w. LeavesBy (Done (SettlesBy (Comes Silent (λ given. d) (λ given cached. cached ≡ d.seen.cached)
+      (λ given ops. MadeStore (Some (cell.Comm word)) core value before ops)))) s
+      (writing (Some (cell.Comm word)) w address value (with_plain (ends u) d)) before) (sym is) (
+        refl,
+        settled_by (record { value = 0; given = tt; is_like = like d refl; cached = refl; made = (s, refl) })
+            (inl idle),
+      )
   local_stored width address value is (Some (cell.Port target register)) l = (
     refl,
-    port_cases (λ a b c. SettlesBy (Comes Silent (λ given. sent_as (port_by a b target value d) d) (λ given cached. cached ≡ d.seen.cached) (λ given ops. ops ≡ before)) c before) target register value (with_plain (ends u) d)
-        (λ b. settled_by (record { value = 0; given = tt; is_like = like (sent_as (port_by true b target value d) d) refl; cached = refl; made = refl }) (inl idle))
-        (settled_by (record { value = 0; given = tt; is_like = like (sent_as (port_by false true target value d) d) refl; cached = refl; made = refl }) (inl idle))
-        (settled_by (record { value = 0; given = tt; is_like = like (sent_as (port_by false false target value d) d) refl; cached = refl; made = refl }) (inl idle)),
+    port_cases (λ a b c. SettlesBy (Comes Silent (λ given. sent_as (port_by a b target value d) d)
+        (λ given cached. cached ≡ d.seen.cached) (λ given ops. ops ≡ before)) c before) target register value
+        (with_plain (ends u) d)
+        (λ b. settled_by (record {
+          value = 0;
+          given = tt;
+          is_like = like (sent_as (port_by true b target value d) d)
+              refl;
+          cached = refl;
+          made = refl;
+        }) (inl idle))
+        (settled_by (record {
+          value = 0;
+          given = tt;
+          is_like = like (sent_as (port_by false true target value d) d)
+              refl;
+          cached = refl;
+          made = refl;
+        }) (inl idle))
+        (settled_by (record {
+          value = 0;
+          given = tt;
+          is_like = like (sent_as (port_by false false target value d) d)
+              refl;
+          cached = refl;
+          made = refl;
+        }) (inl idle)),
   )
 
-  main_written : (t : Transfer) (width : StoreWidth) (address value v at : ℕ) (i : Interface) → SamePorts d.plain.interface i → (seen : History) → seen.sendings ≡ d.seen.sendings → (Has : List cache.Access → Type 0) → Has seen.cached
+  main_written : (t : Transfer) (width : StoreWidth) (address value v at : ℕ) (i : Interface)
+      → SamePorts d.plain.interface i → (seen : History) → seen.sendings ≡ d.seen.sendings
+      → (Has : List cache.Access → Type 0) → Has seen.cached
       → width ≡ store_width.Word → (place : Option Cell) → IsMainStorable place
-      → LeavesBy (Done (Comes Silent (λ given. with_plain (λ x. record x { private = private_at place width address value x }) d) (λ given. Has) (λ given ops. MadeStore place core value before ops))) at
+      → LeavesBy (Done
+      (Comes Silent (λ given. with_plain (λ x. record x { private = private_at place width address value x }) d)
+      (λ given. Has) (λ given ops. MadeStore place core value before ops))) at
       (writing place width address value (record { plain = moved v (waiting t i).plain; seen = seen })) before
   main_written t width address value v at i ports seen sent Has has is None l = absurd l
   main_written t width address value v at i ports seen sent Has has is (Some (cell.Scratch word)) l = absurd l
   main_written t width address value v at i ports seen sent Has has is (Some (cell.Comm word)) l = absurd l
   main_written t width address value v at i ports seen sent Has has is (Some (cell.Port target register)) l = absurd l
-  main_written t width address value v at i ports seen sent Has has is (Some (cell.Private word)) l =
-      (refl, record { value = 0; given = tt; is_like = like_but (with_plain (λ x. record x { private = private_at (Some (cell.Private word)) width address value x }) d) ports sent; cached = has; made = refl })
+  main_written t width address value v at i ports seen sent Has has is (Some (cell.Private word)) l = (
+    refl,
+    record {
+      value = 0;
+      given = tt;
+      is_like = like_but
+          (with_plain (λ x. record x { private = private_at (Some (cell.Private word)) width address value x }) d) ports
+          sent;
+      cached = has;
+      made = refl;
+    },
+  )
   main_written t width address value v at i ports seen sent Has has is (Some (cell.Shared word)) l =
-      subst (λ w. LeavesBy (Done (Comes Silent (λ given. d) (λ given. Has) (λ given ops. MadeStore (Some (cell.Shared word)) core value before ops))) at
-      (writing (Some (cell.Shared word)) w address value (record { plain = moved v (waiting t i).plain; seen = seen })) before) (sym is)
+      subst (λ w. LeavesBy
+      (Done (Comes Silent (λ given. d) (λ given. Has) (λ given ops. MadeStore (Some (cell.Shared word)) core value
+      before ops))) at
+      (writing (Some (cell.Shared word)) w address value (record { plain = moved v (waiting t i).plain; seen = seen }))
+      before) (sym is)
       (refl, record { value = 0; given = tt; is_like = like_but d ports sent; cached = has; made = (at, refl) })
 
-  main_stored : (cached : Bool) (width : StoreWidth) (address value : ℕ) → width ≡ store_width.Word → IsMainStorable (cell_of Main address)
-      → SettlesBy (Comes Silent (λ given. with_plain (λ x. record x { private = private_at (cell_of Main address) width address value x }) d) (λ given has. has ≡ (with_store cached width address value d.seen).cached)
-      (λ given ops. MadeStore (cell_of Main address) core value before ops)) (with_plain (moves (writes 1 (then_on.Store cached width address value)) u) d) before
+  main_stored : (cached : Bool) (width : StoreWidth) (address value : ℕ) → width ≡ store_width.Word
+      → IsMainStorable (cell_of Main address)
+      → SettlesBy (Comes Silent
+      (λ given. with_plain (λ x. record x { private = private_at (cell_of Main address) width address value x }) d)
+      (λ given has. has ≡ (with_store cached width address value d.seen).cached)
+      (λ given ops. MadeStore (cell_of Main address) core value before ops))
+      (with_plain (moves (writes 1 (then_on.Store cached width address value)) u) d) before
   main_stored cached width address value is l =
       let t : Transfer = writes 1 (then_on.Store cached width address value) in
-      awaits_by refl (once _ t (λ v at i ports. main_written t width address value v at i ports (with_store cached width address value (counted v (waiting t i)).seen) (sent cached v t i)
-      (λ has. has ≡ (with_store cached width address value d.seen).cached) (same cached v t i) is (cell_of Main address) l))
+      awaits_by refl (once _ t (λ v at i ports. main_written t width address value v at i ports
+      (with_store cached width address value (counted v (waiting t i)).seen) (sent cached v t i)
+      (λ has. has ≡ (with_store cached width address value d.seen).cached) (same cached v t i) is
+      (cell_of Main address) l))
     where
-      sent : (c : Bool) (v : ℕ) (t : Transfer) (i : Interface) → (with_store c width address value (counted v (waiting t i)).seen).sendings ≡ d.seen.sendings
+      sent : (c : Bool) (v : ℕ) (t : Transfer) (i : Interface)
+          → (with_store c width address value (counted v (waiting t i)).seen).sendings ≡ d.seen.sendings
       sent true v t i = refl
       sent false v t i = refl
 
-      same : (c : Bool) (v : ℕ) (t : Transfer) (i : Interface) → (with_store c width address value (counted v (waiting t i)).seen).cached ≡ (with_store c width address value d.seen).cached
+      same : (c : Bool) (v : ℕ) (t : Transfer) (i : Interface)
+          → (with_store c width address value (counted v (waiting t i)).seen).cached
+          ≡ (with_store c width address value d.seen).cached
       same true v t i = refl
       same false v t i = refl
 
@@ -362,30 +533,96 @@ module _ (site : Site) (u s : ℕ) (p : Pointers) (k : Memory) (d : Core) (befor
 
   -- so many words of the stack are moved, or none
   stack_moved : (write : Bool) (words : ℕ) (func : StackFunc) (count : ℕ)
-      → SettlesBy (Outcome (effect.StackOp func count) d before) (with_plain (moves (record { write = write; words = words; then = then_on.Nothing }) u) (with_plain (stack_done func count) d)) before
+      → SettlesBy (Outcome (effect.StackOp func count) d before) (with_plain
+      (moves (record { write = write; words = words; then = then_on.Nothing }) u)
+      (with_plain (stack_done func count) d)) before
   stack_moved write words func count = by (words == 0)
     where
       by : (b : Bool) → SettlesBy (Outcome (effect.StackOp func count) d before)
-          (with_plain (λ x. elim b as (λ _. Plain) [ true ↦ ends u x | false ↦ record x { transfer = record { write = write; words = words; then = then_on.Nothing } } ]) (with_plain (stack_done func count) d)) before
-      by true = settled_by (record { value = 0; given = tt; is_like = like (with_plain (stack_done func count) d) refl; cached = refl; made = refl }) (inl idle)
-      by false = settled_by (record { value = 0; given = tt; is_like = like (with_plain (stack_done func count) d) refl; cached = refl; made = refl }) (inr refl)
+          (with_plain (λ x. elim b as (λ _. Plain) [
+            | true ↦ ends u x
+            | false ↦
+                record x { transfer = record { write = write; words = words; then = then_on.Nothing } }
+          ])
+          (with_plain (stack_done func count) d)) before
+      by true = settled_by (record {
+        value = 0;
+        given = tt;
+        is_like = like (with_plain (stack_done func count) d) refl;
+        cached = refl;
+        made = refl;
+      }) (inl idle)
+      by false = settled_by (record {
+        value = 0;
+        given = tt;
+        is_like = like (with_plain (stack_done func count) d) refl;
+        cached = refl;
+        made = refl;
+      }) (inr refl)
 
-  pub outcome : (e : Effect) → IsSound site e p k → LeavesBy (Done (SettlesBy (Outcome e d before))) s (answered e u d) before
-  outcome effect.Nothing l = (refl, settled_by (record { value = 0; given = tt; is_like = like d refl; cached = refl; made = refl }) (inl idle))
-  outcome (effect.Flow kind) l = (refl, settled_by (record { value = 0; given = tt; is_like = like d refl; cached = refl; made = refl }) (inl idle))
+  pub outcome : (e : Effect) → IsSound site e p k → LeavesBy (Done (SettlesBy (Outcome e d before))) s
+      (answered e u d) before
+  outcome effect.Nothing l = (
+    refl,
+    settled_by (record {
+      value = 0;
+      given = tt;
+      is_like = like d refl;
+      cached = refl;
+      made = refl;
+    }) (inl idle),
+  )
+  outcome (effect.Flow kind) l = (
+    refl,
+    settled_by (record { value = 0; given = tt; is_like = like d refl; cached = refl; made = refl })
+        (inl idle),
+  )
   outcome (effect.Load mem.S width rd address) l =
-      let word : ℕ = slice_index d.plain.stack.words (address / 4) in
-      (refl, settled_by (record { value = word; given = refl; is_like = like (with_plain (with_value rd width address word) d) refl; cached = refl; made = refl }) (inl idle))
+      let word : ℕ = slice_index d.plain.stack.words (address / 4) in (
+        refl,
+        settled_by
+            (record {
+              value = word;
+              given = refl;
+              is_like = like (with_plain (with_value rd width address word) d) refl;
+              cached = refl;
+              made = refl;
+            }) (inl idle),
+      )
   outcome (effect.Load mem.L width rd address) l = local_loaded width rd address (cell_of Local address) l.2
-  outcome (effect.Load mem.C width rd address) l = (refl, by_cache width rd address (cache.cached_word d.seen.cached address) refl)
+  outcome (effect.Load mem.C width rd address) l =
+      (refl, by_cache width rd address (cache.cached_word d.seen.cached address) refl)
   outcome (effect.Load mem.M width rd address) l =
-      let t : Transfer = reads 1 (then_on.Load rd width address) in
-      (refl, awaits_by refl (once (Outcome (effect.Load mem.M width rd address) d before) t (λ v at i ports. main_loaded t width rd address v at i ports (cell_of Main address) l.2)))
-  outcome (effect.Store mem.S width address value) l =
-      (refl, settled_by (record { value = 0; given = tt; is_like = like (with_plain (λ x. record x { stack = stack_set width address value x.stack }) d) refl; cached = refl; made = refl }) (inl idle))
+      let t : Transfer = reads 1 (then_on.Load rd width address) in (
+        refl,
+        awaits_by refl (once (Outcome (effect.Load mem.M width rd address) d before) t
+            (λ v at i ports. main_loaded t width rd address v at i ports (cell_of Main address) l.2)),
+      )
+  outcome (effect.Store mem.S width address value) l = (
+    refl,
+    settled_by
+        (record {
+          value = 0;
+          given = tt;
+          is_like = like
+              (with_plain (λ x. record x { stack = stack_set width address value x.stack }) d) refl;
+          cached =
+              refl;
+          made = refl;
+        }) (inl idle),
+  )
   outcome (effect.Store mem.L width address value) l = local_stored width address value l.0 (cell_of Local address) l.2
   outcome (effect.Store mem.C width address value) l = (refl, main_stored true width address value l.0 l.2)
   outcome (effect.Store mem.M width address value) l = (refl, main_stored false width address value l.0 l.2)
   outcome (effect.StackOp Sres count) l = (refl, stack_moved true (length (spilled count d.plain.stack)) Sres count)
   outcome (effect.StackOp Sens count) l = (refl, stack_moved false (missing count d.plain.stack) Sens count)
-  outcome (effect.StackOp Sfree count) l = (refl, settled_by (record { value = 0; given = tt; is_like = like (with_plain (stack_done Sfree count) d) refl; cached = refl; made = refl }) (inl idle))
+  outcome (effect.StackOp Sfree count) l = (
+    refl,
+    settled_by (record {
+      value = 0;
+      given = tt;
+      is_like = like (with_plain (stack_done Sfree count) d) refl;
+      cached = refl;
+      made = refl;
+    }) (inl idle),
+  )

@@ -30,29 +30,32 @@ use Rattle.code_core.proofs.InRange.{loads_are_words}
 use Rattle.patmos_model.specs.Range.{IsWord}
 use Rattle.code_core.proofs.Beginning.{RunsAs, runs_as}
 use Rattle.code_core.proofs.Fixed.{fixed, steady_trail}
-use Rattle.code_core.proofs.Landing.{StartsBehind, running_by}
+use Rattle.code_core.proofs.Landing.{StartsAfter, running_by}
 
 -- ---- no function starts at word 0
 
-pub start_behind : (size : ℕ → ℕ) (at k : ℕ) → 0 < place_of size at k
-start_behind size at k = by (k == at)
+pub start_after : (size : ℕ → ℕ) (at k : ℕ) → 0 < place_of size at k
+start_after size at k = by (k == at)
   where
     by : (b : Bool) → 0 < (if b then 1 else 1 + size at + others_below size at k + 1)
     by true = omega arith
     by false = omega arith
 
-pub starts_behind : (s : PlainShape) → StartsBehind (linked s)
-starts_behind s = all (order s)
+pub starts_after : (s : PlainShape) → StartsAfter (linked s)
+starts_after s = all (order s)
   where
     all : (ks : List ℕ) → list_any (λ start. 0 == start) (map (start_of s) ks) ≡ false
     all [] = refl
     all (k ∷ ks) =
-        let one : (0 == start_of s k) ≡ false = ne_eqb 0 (start_of s k) (λ e. omega (arith, e, start_behind (size_of s) s.entry k)) in
+        let one : (0 == start_of s k) ≡ false =
+        ne_eqb 0 (start_of s k) (λ e. omega (arith, e, start_after (size_of s) s.entry k)) in
         (λ i. one i || all ks i)
 
 -- ---- a run
 
-module _ (place : Place) (s : PlainShape) (addresses : List ℕ) (link : IsLinkable s) (behaves : Behaves s place addresses) (slots : IsSlotted (site_of place (linked s))) (among : place.core < place.cores) where
+module _ (place : Place) (s : PlainShape) (addresses : List ℕ) (link : IsLinkable s)
+    (behaves : Behaves s place addresses) (slots : IsSlotted (site_of place (linked s)))
+    (among : place.core < place.cores) where
   pub unused_ports : (input : List ℕ) → HoldsPorts no_memory (begun (site_of place (linked s)) input).plain.interface
   unused_ports input = record {
     count = refl;
@@ -62,25 +65,35 @@ module _ (place : Place) (s : PlainShape) (addresses : List ℕ) (link : IsLinka
 
   pub ends : (input values : List ℕ) → AreGiven input values → IsFollowed place s addresses input values
   ends input values given =
-      let loads : List ℕ = loads_from place.cores place.core (bundles_in (trail s)) (first_moment place.cores place.core (begun (site_of place (linked s)) input) values) in
+      let loads : List ℕ = loads_from place.cores place.core (bundles_in (trail s)) (first_moment place.cores place.core
+      (begun (site_of place (linked s)) input) values) in
       let m : Run = begun_run s loads in
-      let words : Each IsWord loads = loads_are_words place.cores place.core (site_of place (linked s)) input values (bundles_in (trail s)) among link.words link.initial given in
+      let words : Each IsWord loads = loads_are_words place.cores place.core (site_of place (linked s)) input values
+      (bundles_in (trail s)) among link.words link.initial given in
       let fits : FitsRegisters m.regs = record { count = refl; pred_count = refl; zero = refl; always = refl } in
       let f : Follows (linked s) by_stack (trail s) (dues_of s (back 0 0)) (walk_from (entry (linked s)) m) =
-      shape_followed s by_stack m link.formed link.fits link.bundles fits refl (behaves.iterations no_memory loads words) in
-      let r : RunsAs place.cores place.core (site_of place (linked s)) input values (trail s) (dues_of s (back 0 0)) m f.last =
-      runs_as place.cores place.core (site_of place (linked s)) input values (trail s) (dues_of s (back 0 0)) no_memory (backs_of s) f.last 0 (unused_ports input) slots (starts_behind s) f.does_so (behaves.sound no_memory loads words) f.returns in
+      shape_followed s by_stack m link.formed link.fits link.bundles fits refl
+      (behaves.iterations no_memory loads words) in
+      let r : RunsAs place.cores place.core (site_of place (linked s)) input values (trail s)
+      (dues_of s (back 0 0)) m f.last =
+      runs_as place.cores place.core (site_of place (linked s)) input values (trail s) (dues_of s (back 0 0)) no_memory
+      (backs_of s) f.last 0 (unused_ports input) slots (starts_after s) f.does_so
+      (behaves.sound no_memory loads words) f.returns in
       record {
         loads = loads;
         status = r.ended.status;
-        still = running_by (core_in (after_bundles place.cores place.core (begun (site_of place (linked s)) input) values (bundles_in (trail s)))).plain true r.ended.status r.ended.ended;
+        still = running_by (core_in (after_bundles place.cores place.core (begun (site_of place (linked s)) input)
+            values (bundles_in (trail s)))).plain true r.ended.status r.ended.ended;
         bundles = r.done;
         regs = sym r.ended.goes.is_as.regs ∙ ap (λ (z : Run). z.regs) f.run;
         events = r.events ∙ ap (λ l. first_event (site_of place (linked s)) ∷ l)
-            (fixed (linked s) by_stack (trail s) (dues_of s (back 0 0)) m (steady_trail s link.steady) fits ∙ ap (fixed_events (linked s) (trail s) (dues_of s (back 0 0))) (behaves.same no_memory loads words));
+            (fixed (linked s) by_stack (trail s) (dues_of s (back 0 0)) m (steady_trail s link.steady) fits
+            ∙ ap (fixed_events (linked s) (trail s) (dues_of s (back 0 0))) (behaves.same no_memory loads words));
       }
 
   -- two runs have the same events
-  pub same_past : (input values input' values' : List ℕ) → AreGiven input values → AreGiven input' values' → past place.cores place.core (begun (site_of place (linked s)) input) values (bundles_in (trail s))
+  pub same_past : (input values input' values' : List ℕ) → AreGiven input values → AreGiven input' values'
+      → past place.cores place.core (begun (site_of place (linked s)) input) values (bundles_in (trail s))
       ≡ past place.cores place.core (begun (site_of place (linked s)) input') values' (bundles_in (trail s))
-  same_past input values input' values' given given' = (ends input values given).events ∙ sym (ends input' values' given').events
+  same_past input values input' values' given given' =
+      (ends input values given).events ∙ sym (ends input' values' given').events

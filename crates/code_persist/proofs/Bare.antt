@@ -49,7 +49,8 @@ module _ (image : Parts) (each : ℕ) where
       by true = refl
       by false = omega arith
 
-  pub fixed_bare : (steps : List Step) (ds : List (Option Goal)) (addresses : List ℕ) → bares each (fixed_events image steps ds addresses) ≤ steps_bound each steps
+  pub fixed_bare : (steps : List Step) (ds : List (Option Goal)) (addresses : List ℕ)
+      → bares each (fixed_events image steps ds addresses) ≤ steps_bound each steps
   fixed_bare [] ds addresses = omega arith
   fixed_bare (does b ∷ steps) [] addresses = omega arith
   fixed_bare (does b ∷ steps) (d ∷ ds) addresses =
@@ -74,7 +75,8 @@ module _ (each : ℕ) where
 
   copies_bound : (count : ℕ) (xs : List Step) → steps_bound each (copies count xs) ≡ count * steps_bound each xs
   copies_bound zero xs = omega arith
-  copies_bound (suc n) xs = let rest = copies_bound n xs in let e = joined_bound xs (copies n xs) in omega (arith, rest, e)
+  copies_bound (suc n) xs =
+      let rest = copies_bound n xs in let e = joined_bound xs (copies n xs) in omega (arith, rest, e)
 
   module _ (own : ℕ) (f : ℕ → List Step) (g : ℕ → ℕ) (same : (k : ℕ) → steps_bound each (f k) ≡ g k) where
     mutual
@@ -82,8 +84,10 @@ module _ (each : ℕ) where
       part_is (straight bs) = done_bound bs
       part_is (repeats count body tail) =
           copies_bound count (parts_trail f body ++ all_done tail)
-          ∙ ap (λ n. count * n) (joined_bound (parts_trail f body) (all_done tail) ∙ (λ i. parts_is body i + done_bound tail i))
-      part_is (calls_to k tail) = let parts = joined_bound (all_done tail) (begins ∷ f k) in let way = done_bound tail in let callee = same k in omega (arith, parts, way, callee)
+          ∙ ap (λ n. count * n) (joined_bound (parts_trail f body) (all_done tail)
+          ∙ (λ i. parts_is body i + done_bound tail i))
+      part_is (calls_to k tail) = let parts = joined_bound (all_done tail) (begins ∷ f k) in let way =
+          done_bound tail in let callee = same k in omega (arith, parts, way, callee)
       part_is (leaves tail) = done_bound tail
 
       parts_is : (ps : PlainParts) → steps_bound each (parts_trail f ps) ≡ parts_bound each (λ _. 0) g own ps
@@ -95,6 +99,8 @@ module _ (each : ℕ) where
   runs_is fs (suc n) k = by (runs_is fs n) (k == n)
     where
       by : ((j : ℕ) → steps_bound each (trails fs n j) ≡ runs fs each n j) → (b : Bool)
-          → steps_bound each (if b then parts_trail (trails fs n) (slice_index_or fs n no_part) else trails fs n k) ≡ (if b then parts_bound each (λ _. 0) (runs fs each n) n (slice_index_or fs n no_part) else runs fs each n k)
+          → steps_bound each (if b then parts_trail (trails fs n) (slice_index_or fs n no_part) else trails fs n k)
+          ≡ (if b then parts_bound each (λ _. 0) (runs fs each n) n (slice_index_or fs n no_part) else
+          runs fs each n k)
       by earlier true = parts_is n (trails fs n) (runs fs each n) earlier (slice_index_or fs n no_part)
       by earlier false = earlier k

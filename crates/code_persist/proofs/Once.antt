@@ -45,61 +45,100 @@ record Once (all : List Method) (each : ℕ) (e : Event) (p q : Pace) : Type 0 w
 
 module _ (site : Site) (all : List Method) (slots : IsSlotted site) (room : fits all ≡ true) where
   -- where no function is gone to
-  other_once : (e : Event) (es : List Event) (p : Pace) → AreFew (e ∷ es) → p.words ≡ 0 → p.held ≤ 128 → MissOnce all p.misses
-      → (asked_by e p).misses ≡ p.misses → cost (most_in_slot site) e ≡ bare (most_in_slot site) e → Once all (most_in_slot site) e p (happened site e p)
+  other_once : (e : Event) (es : List Event) (p : Pace) → AreFew (e ∷ es) → p.words ≡ 0 → p.held ≤ 128
+      → MissOnce all p.misses
+      → (asked_by e p).misses ≡ p.misses → cost (most_in_slot site) e ≡ bare (most_in_slot site) e
+      → Once all (most_in_slot site) e p (happened site e p)
   other_once e es p few none small missed same is =
       let f = few_so (most_in_slot site) e es p few none small in
       let w = carried_within site (asked_by e p) f.most slots f.words in
       let misses : (happened site e p).misses ≡ p.misses = carried_misses site (asked_by e p) ∙ same in
       let fetched = ap (λ ms. most_in_slot site * fills ms) misses in
-      record { free = omega (arith, f.free, w.free, fetched, is); held = omega (arith, w.held, f.held); missed = subst (MissOnce all) (sym misses) missed }
+      record {
+        free = omega (arith, f.free, w.free, fetched, is);
+        held = omega (arith, w.held, f.held);
+        missed = subst
+            (MissOnce all) (sym misses) missed;
+      }
 
   asks_misses : (write : Bool) (words : ℕ) (p : Pace) → (asks write words p).misses ≡ p.misses
   asks_misses write words p = by (words == 0)
     where
-      by : (b : Bool) → (elim b as (λ _. Pace) [ true ↦ record p { free = p.free + 1 } | false ↦ record p { write = write; words = words; line = None } ]).misses ≡ p.misses
+      by : (b : Bool) → (elim b as (λ _. Pace) [
+        | true ↦ record p { free = p.free + 1 }
+        | false ↦
+            record p { write = write; words = words; line = None }
+      ]).misses ≡ p.misses
       by true = refl
       by false = refl
 
   cached_misses : (address : ℕ) (p : Pace) → (asked_by (cached address) p).misses ≡ p.misses
   cached_misses address p = by (is_loaded address p.loads)
     where
-      by : (b : Bool) → (elim b as (λ _. Pace) [ true ↦ record p { free = p.free + 1; loads = address ∷ p.loads } | false ↦ record p { write = false; words = 4; line = Some address } ]).misses ≡ p.misses
+      by : (b : Bool)
+          → (elim b as (λ _. Pace) [
+            | true ↦ record p { free = p.free + 1; loads = address ∷ p.loads }
+            | false ↦
+                record p { write = false; words = 4; line = Some address }
+          ]).misses ≡ p.misses
       by true = refl
       by false = refl
 
-  came_once : (method : Method) (p : Pace) → p.words ≡ 0 → p.held ≤ 128 → MissOnce all p.misses → Contains all method → Once all (most_in_slot site) (came method) p (happened site (came method) p)
+  came_once : (method : Method) (p : Pace) → p.words ≡ 0 → p.held ≤ 128 → MissOnce all p.misses → Contains all method
+      → Once all (most_in_slot site) (came method) p (happened site (came method) p)
   came_once method p none small missed one = by (is_among method.function (resident p.misses)) refl
     where
-      by : (b : Bool) → is_among method.function (resident p.misses) ≡ b → Once all (most_in_slot site) (came method) p (carried site (elim b as (λ _. Pace) [
-        | true ↦ record p { write = false; words = 0; line = None; misses = if b then p.misses else p.misses ++ method ∷ [] }
-        | false ↦ record p { write = false; words = method.words + 1; line = None; misses = if b then p.misses else p.misses ++ method ∷ [] }
-      ]))
+      by : (b : Bool) → is_among method.function (resident p.misses) ≡ b → Once all (most_in_slot site) (came method) p
+          (carried site (elim b as (λ _. Pace) [
+            | true ↦ record p {
+              write = false;
+              words = 0;
+              line = None;
+              misses = if b then p.misses else p.misses
+                  ++ method ∷ [];
+            }
+            | false ↦ record p {
+              write = false;
+              words = method.words + 1;
+              line = None;
+              misses = if b then p.misses else p.misses ++ method ∷ [];
+            }
+          ]))
       by true is = record { free = omega arith; held = small; missed = missed }
       by false is =
-          let q : Pace = record p { write = false; words = method.words + 1; line = None; misses = p.misses ++ method ∷ [] } in
-          let w : Within site q (fill_of method.words) (carried site q) = carried_within site q (fill_of method.words) slots (omega arith) in
+          let q : Pace =
+          record p { write = false; words = method.words + 1; line = None; misses = p.misses ++ method ∷ [] } in
+          let w : Within site q (fill_of method.words) (carried site q) =
+          carried_within site q (fill_of method.words) slots (omega arith) in
           let misses : (carried site q).misses ≡ p.misses ++ method ∷ [] = carried_misses site q in
-          let more : fills (carried site q).misses ≡ fills p.misses + fill_of method.words = ap fills misses ∙ sum_by_push (λ (m : Method). fill_of m.words) p.misses method in
-          let fetched : most_in_slot site * fills (carried site q).misses ≡ most_in_slot site * (fills p.misses + fill_of method.words) = ap (λ n. most_in_slot site * n) more in
+          let more : fills (carried site q).misses ≡ fills p.misses + fill_of method.words =
+          ap fills misses ∙ sum_by_push (λ (m : Method). fill_of m.words) p.misses method in
+          let fetched : most_in_slot site * fills (carried site q).misses ≡ most_in_slot site
+          * (fills p.misses + fill_of method.words) = ap (λ n. most_in_slot site * n) more in
           let time = w.free in
           let h = w.held in
           record {
             free = omega (arith, time, fetched);
             held = omega (arith, h, small);
-            missed = subst (MissOnce all) (sym misses) (once_pushed all p.misses method one (ap (is_among method.function) (sym (all_stay all p.misses room missed)) ∙ is) missed);
+            missed = subst (MissOnce all) (sym misses) (once_pushed all p.misses method one
+                (ap (is_among method.function) (sym (all_stay all p.misses room missed)) ∙ is) missed);
           }
 
-  once : (e : Event) (es : List Event) (p : Pace) → AreFew (e ∷ es) → p.words ≡ 0 → p.held ≤ 128 → MissOnce all p.misses → AreAmong all (e ∷ es) → Once all (most_in_slot site) e p (happened site e p)
+  once : (e : Event) (es : List Event) (p : Pace) → AreFew (e ∷ es) → p.words ≡ 0 → p.held ≤ 128 → MissOnce all p.misses
+      → AreAmong all (e ∷ es) → Once all (most_in_slot site) e p (happened site e p)
   once quick es p few none small missed among = other_once quick es p few none small missed refl refl
   once load es p few none small missed among = other_once load es p few none small missed refl refl
-  once (cached address) es p few none small missed among = other_once (cached address) es p few none small missed (cached_misses address p) refl
+  once (cached address) es p few none small missed among =
+      other_once (cached address) es p few none small missed (cached_misses address p) refl
   once store es p few none small missed among = other_once store es p few none small missed refl refl
   once (stack Sres count) es p few none small missed among =
-      other_once (stack Sres count) es p few none small missed (asks_misses true (count + p.held - 128) (record p { held = min 128 (count + p.held) })) refl
+      other_once (stack Sres count) es p few none small missed (asks_misses true (count + p.held - 128)
+      (record p { held = min 128 (count + p.held) })) refl
   once (stack Sens count) es p few none small missed among =
-      other_once (stack Sens count) es p few none small missed (asks_misses false (count - p.held) (record p { held = p.held + (count - p.held) })) refl
-  once (stack Sfree count) es p few none small missed among = other_once (stack Sfree count) es p few none small missed refl refl
+      other_once (stack Sens count) es p few none small missed (asks_misses false (count - p.held)
+      (record p { held = p.held + (count - p.held) })) refl
+  once (stack Sfree count) es p few none small missed among =
+      other_once (stack Sfree count) es p few none small missed refl refl
   once (came method) es p few none small missed among = came_once method p none small missed among.0
 
   among_rest : (e : Event) (es : List Event) → AreAmong all (e ∷ es) → AreAmong all es
@@ -112,20 +151,24 @@ module _ (site : Site) (all : List Method) (slots : IsSlotted site) (room : fits
 
   -- the clock over events
   record Clocks (es : List Event) (p : Pace) : Type 0 where
-    free : (clock site es p).free + most_in_slot site * fills p.misses ≤ p.free + bares (most_in_slot site) es + most_in_slot site * fills (clock site es p).misses
+    free : (clock site es p).free + most_in_slot site * fills p.misses ≤ p.free + bares (most_in_slot site) es
+        + most_in_slot site * fills (clock site es p).misses
     missed : MissOnce all (clock site es p).misses
 
-  clocks_once : (es : List Event) (p : Pace) → AreFew es → p.words ≡ 0 → p.held ≤ 128 → MissOnce all p.misses → AreAmong all es → Clocks es p
+  clocks_once : (es : List Event) (p : Pace) → AreFew es → p.words ≡ 0 → p.held ≤ 128 → MissOnce all p.misses
+      → AreAmong all es → Clocks es p
   clocks_once [] p few none small missed among = record { free = omega arith; missed = missed }
   clocks_once (e ∷ es) p few none small missed among =
       let h = once e es p few none small missed among in
-      let rest = clocks_once es (happened site e p) (few_rest e es few) (carried_words site (asked_by e p)) h.held h.missed (among_rest e es among) in
+      let rest = clocks_once es (happened site e p) (few_rest e es few) (carried_words site (asked_by e p)) h.held
+      h.missed (among_rest e es among) in
       let a = h.free in
       let b = rest.free in
       record { free = omega (arith, a, b); missed = rest.missed }
 
   -- from an empty method cache
-  pub clock_once : (es : List Event) (p : Pace) → AreFew es → p.words ≡ 0 → p.held ≤ 128 → p.misses ≡ [] → AreAmong all es
+  pub clock_once : (es : List Event) (p : Pace) → AreFew es → p.words ≡ 0 → p.held ≤ 128 → p.misses ≡ []
+      → AreAmong all es
       → (clock site es p).free ≤ p.free + bares (most_in_slot site) es + most_in_slot site * fills all
   clock_once es p few none small empty among =
       let h = clocks_once es p few none small (subst (MissOnce all) (sym empty) (none_missed all)) among in

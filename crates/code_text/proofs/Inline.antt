@@ -19,10 +19,14 @@ glyph_inline d = grind (arith, nat_tests)
 
 onto_inline : (k n : ℕ) (acc : List ℕ) → lacks 10 acc ≡ true → lacks 10 (digits_onto k 10 false n acc) ≡ true
 onto_inline zero n acc e = e
-onto_inline (suc k) n acc e = let one : lacks 10 (digit_glyph false (n % 10) ∷ acc) ≡ true = rw (glyph_inline (n % 10), e) refl in by_test (n / 10 == 0) one (onto_inline k (n / 10) (digit_glyph false (n % 10) ∷ acc) one)
+onto_inline (suc k) n acc e = let one : lacks 10 (digit_glyph false (n % 10) ∷ acc) ≡ true =
+    rw (glyph_inline (n % 10), e) refl in by_test (n / 10 == 0) one
+    (onto_inline k (n / 10) (digit_glyph false (n % 10) ∷ acc) one)
   where
-    by_test : (t : Bool) → lacks 10 (digit_glyph false (n % 10) ∷ acc) ≡ true → lacks 10 (digits_onto k 10 false (n / 10) (digit_glyph false (n % 10) ∷ acc)) ≡ true
-        → lacks 10 (if t then digit_glyph false (n % 10) ∷ acc else digits_onto k 10 false (n / 10) (digit_glyph false (n % 10) ∷ acc)) ≡ true
+    by_test : (t : Bool) → lacks 10 (digit_glyph false (n % 10) ∷ acc) ≡ true
+        → lacks 10 (digits_onto k 10 false (n / 10) (digit_glyph false (n % 10) ∷ acc)) ≡ true
+        → lacks 10 (if t then digit_glyph false (n % 10) ∷ acc else digits_onto k 10 false (n / 10)
+        (digit_glyph false (n % 10) ∷ acc)) ≡ true
     by_test true h more = h
     by_test false h more = more
 
@@ -48,7 +52,8 @@ second_inline words at size = by_test (size == 2)
 pub note_inline : (words : List ℕ) (at size : ℕ) → lacks 10 (note_of words at size) ≡ true
 note_inline words at size =
     lacks_both (decimal at ++ codes " " ++ hex8 (slice_index words at)) (second_note words at size)
-    (lacks_both (decimal at ++ codes " ") (hex8 (slice_index words at)) (lacks_both (decimal at) (codes " ") (decimal_inline at) refl) (hex8_inline (slice_index words at))) (second_inline words at size)
+    (lacks_both (decimal at ++ codes " ") (hex8 (slice_index words at)) (lacks_both (decimal at) (codes " ")
+    (decimal_inline at) refl) (hex8_inline (slice_index words at))) (second_inline words at size)
 
 pub name_inline : (name : List ℕ) → is_name name ≡ true → lacks 10 name ≡ true
 name_inline name e = harmless_lacks 10 name refl (name_harmless name e)
@@ -60,4 +65,5 @@ pub tally_inline : (tally : Option Tally) → lacks 10 (tally_text tally) ≡ tr
 tally_inline None = refl
 tally_inline (Some t) =
     lacks_both (codes " bundles " ++ decimal t.bundles ++ codes " transactions ") (decimal t.transactions)
-    (lacks_both (codes " bundles " ++ decimal t.bundles) (codes " transactions ") (decimal_inline t.bundles) refl) (decimal_inline t.transactions)
+    (lacks_both (codes " bundles " ++ decimal t.bundles) (codes " transactions ") (decimal_inline t.bundles) refl)
+    (decimal_inline t.transactions)

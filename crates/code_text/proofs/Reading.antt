@@ -28,20 +28,22 @@ is_other false h = refl
 -- ---- comments
 
 -- a comment goes on to the end of its line
-comment_read : (line : ℕ) (note rest : List ℕ) → lacks 10 note ≡ true → scanned line Comment (note ++ 10 ∷ rest) ≡ (line, []) ∷ scanned (line + 1) Plain rest
+comment_read : (line : ℕ) (note rest : List ℕ) → lacks 10 note ≡ true → scanned line Comment (note ++ 10 ∷ rest)
+    ≡ (line, []) ∷ scanned (line + 1) Plain rest
 comment_read line [] rest e = refl
 comment_read line (b ∷ bs) rest e =
     let t = and_parts (not (b == 10)) (lacks 10 bs) e in
     let n : b == 10 ≡ false = is_other (b == 10) t.0 in
     rw n (comment_read line bs rest t.1)
 
-remark_read : (line : ℕ) (note rest : List ℕ) → lacks 10 note ≡ true → statements_of line (35 ∷ 32 ∷ (note ++ 10 ∷ rest)) ≡ statements_of (line + 1) rest
+remark_read : (line : ℕ) (note rest : List ℕ) → lacks 10 note ≡ true
+    → statements_of line (35 ∷ 32 ∷ (note ++ 10 ∷ rest)) ≡ statements_of (line + 1) rest
 remark_read line note rest e =
     statements_scanned line (35 ∷ 32 ∷ (note ++ 10 ∷ rest))
     ∙ ap not_blank (comment_read line note rest e)
     ∙ sym (statements_scanned (line + 1) rest)
 
--- ---- a semicolon and a comment behind a bundle
+-- ---- a semicolon and a comment after a bundle
 
 -- where the byte after a text stands
 abbrev where_after : Where → List ℕ → Where
@@ -65,14 +67,18 @@ harmless_after Braces (b ∷ bs) e =
 harmless_after Comment (b ∷ bs) e = harmless_after Comment bs (and_parts (is_harmless b) (list_all is_harmless bs) e).1
 
 part_after : (text : List ℕ) → AreHarmless text → where_after Braces (part_text text) ≡ Braces
-part_after text e = after_both Braces text (32 ∷ []) ∙ ap (λ at. where_after at (32 ∷ [])) (harmless_after Braces text e)
+part_after text e =
+    after_both Braces text (32 ∷ []) ∙ ap (λ at. where_after at (32 ∷ [])) (harmless_after Braces text e)
 
-braces_after : (a b : List ℕ) → AreHarmless a → AreHarmless b → where_after Braces ((part_text a ++ 59 ∷ part_text b) ++ 125 ∷ []) ≡ Plain
+braces_after : (a b : List ℕ) → AreHarmless a → AreHarmless b → where_after Braces ((part_text a ++ 59 ∷ part_text b)
+    ++ 125 ∷ []) ≡ Plain
 braces_after a b h k =
     after_both Braces (part_text a ++ 59 ∷ part_text b) (125 ∷ [])
-    ∙ ap (λ at. where_after at (125 ∷ [])) (after_both Braces (part_text a) (59 ∷ part_text b) ∙ ap (λ at. where_after at (59 ∷ part_text b)) (part_after a h) ∙ part_after b k)
+    ∙ ap (λ at. where_after at (125 ∷ [])) (after_both Braces (part_text a) (59 ∷ part_text b)
+    ∙ ap (λ at. where_after at (59 ∷ part_text b)) (part_after a h) ∙ part_after b k)
 
-second_after : (first : DraftInstr) (second : Option Instr) → first.guard.pred < 8 → IsPrintableDraft first.draft → IsPrintableSecond first.draft second
+second_after : (first : DraftInstr) (second : Option Instr) → first.guard.pred < 8 → IsPrintableDraft first.draft
+    → IsPrintableSecond first.draft second
     → where_after Plain (bundle_text (record { first = first; second = second })) ≡ Plain
 unfolding bundle_text
 second_after first None h f s = harmless_after Plain (instr_text first) (first_harmless first h f)
@@ -90,27 +96,33 @@ both_not false true c e = cc
 both_not false false c e = (refl, refl, e)
 
 -- a semicolon ends the piece before it
-piece_read : (line : ℕ) (at : Where) (text rest : List ℕ) → stays at text ≡ true → where_after at text ≡ Plain → scanned line at (text ++ 59 ∷ rest) ≡ (line, text) ∷ scanned line Plain rest
+piece_read : (line : ℕ) (at : Where) (text rest : List ℕ) → stays at text ≡ true → where_after at text ≡ Plain
+    → scanned line at (text ++ 59 ∷ rest) ≡ (line, text) ∷ scanned line Plain rest
 piece_read line at [] rest e w = ap (λ a. scanned line a (59 ∷ rest)) w
 piece_read line at (b ∷ bs) rest e w =
     let t = both_not (is_end at b) (is_comment (after_byte at b)) (stays (after_byte at b) bs) e in
-    scanned-byte line b at (bs ++ 59 ∷ rest) t.0 t.1 ∙ ap (put_before (b ∷ [])) (piece_read line (after_byte at b) bs rest t.2 w)
+    scanned-byte line b at (bs ++ 59 ∷ rest) t.0 t.1 ∙ ap (put_before (b ∷ [])) (piece_read line
+    (after_byte at b) bs rest t.2 w)
 
 -- so the line has the statements that it has without them
-commented : (line : ℕ) (text note rest : List ℕ) → stays Plain text ≡ true → where_after Plain text ≡ Plain → lacks 10 note ≡ true
+commented : (line : ℕ) (text note rest : List ℕ) → stays Plain text ≡ true → where_after Plain text ≡ Plain
+    → lacks 10 note ≡ true
     → statements_of line (text ++ 59 ∷ 32 ∷ 32 ∷ 35 ∷ 32 ∷ (note ++ 10 ∷ rest)) ≡ statements_of line (text ++ 10 ∷ rest)
 commented line text note rest e w n =
     statements_scanned line (text ++ 59 ∷ 32 ∷ 32 ∷ 35 ∷ 32 ∷ (note ++ 10 ∷ rest))
     ∙ ap not_blank (piece_read line Plain text (32 ∷ 32 ∷ 35 ∷ 32 ∷ (note ++ 10 ∷ rest)) e w)
-    ∙ ap (λ ps. kept line text (not_blank (put_before (32 ∷ []) (put_before (32 ∷ []) ps)))) (comment_read line note rest n)
+    ∙ ap (λ ps. kept line text (not_blank (put_before (32 ∷ []) (put_before (32 ∷ []) ps))))
+    (comment_read line note rest n)
     ∙ ap (kept line text) (sym (statements_scanned (line + 1) rest))
     ∙ sym (line_stated line text rest e)
 
 does_read : (line : ℕ) (b : DraftBundle) (note rest : List ℕ) → IsPrintable b → lacks 10 note ≡ true
-    → items_from (statements_of line ((codes "  " ++ bundle_text b) ++ 59 ∷ 32 ∷ 32 ∷ 35 ∷ 32 ∷ (note ++ 10 ∷ rest))) ≡ bundle line b ∷ items_from (statements_of (line + 1) rest)
+    → items_from (statements_of line ((codes "  " ++ bundle_text b) ++ 59 ∷ 32 ∷ 32 ∷ 35 ∷ 32 ∷ (note ++ 10 ∷ rest)))
+    ≡ bundle line b ∷ items_from (statements_of (line + 1) rest)
 does_read line b note rest p n =
     let l : IsLine (bundle_text b) = bundle_line b p in
-    ap items_from (commented line (codes "  " ++ bundle_text b) note rest l.stays_plain (bundle_after b p) n) ∙ bundle_read line b rest p
+    ap items_from (commented line (codes "  " ++ bundle_text b) note rest l.stays_plain (bundle_after b p) n)
+    ∙ bundle_read line b rest p
 
 -- ---- lines
 
@@ -136,20 +148,24 @@ items_at line (does b note ∷ ls) = bundle line b ∷ items_at (line + 1) ls
 remark_text : (note rest : List ℕ) → (codes "# " ++ note ++ 10 ∷ []) ++ rest ≡ 35 ∷ 32 ∷ (note ++ 10 ∷ rest)
 remark_text note rest = simp append_assoc
 
-does_text : (text note rest : List ℕ) → (codes "  " ++ text ++ codes ";  # " ++ note ++ 10 ∷ []) ++ rest ≡ (codes "  " ++ text) ++ 59 ∷ 32 ∷ 32 ∷ 35 ∷ 32 ∷ (note ++ 10 ∷ rest)
+does_text : (text note rest : List ℕ) → (codes "  " ++ text ++ codes ";  # " ++ note ++ 10 ∷ []) ++ rest
+    ≡ (codes "  " ++ text) ++ 59 ∷ 32 ∷ 32 ∷ 35 ∷ 32 ∷ (note ++ 10 ∷ rest)
 does_text text note rest = simp append_assoc
 
 -- a text of such lines is read as their statements
-pub lines_read : (line : ℕ) (ls : List Line) → AreReadable ls → items_from (statements_of line (lines_text ls)) ≡ items_at line ls
+pub lines_read : (line : ℕ) (ls : List Line) → AreReadable ls → items_from (statements_of line (lines_text ls))
+    ≡ items_at line ls
 lines_read line [] r = refl
 lines_read line (remark note ∷ ls) r =
-    ap (λ t. items_from (statements_of line t)) (remark_text note (lines_text ls)) ∙ ap items_from (remark_read line note (lines_text ls) r.0) ∙ lines_read (line + 1) ls r.1
+    ap (λ t. items_from (statements_of line t)) (remark_text note (lines_text ls))
+    ∙ ap items_from (remark_read line note (lines_text ls) r.0) ∙ lines_read (line + 1) ls r.1
 lines_read line (begins name ∷ ls) r =
     ap (λ t. items_from (statements_of line t)) (append_assoc (codes ".func " ++ name) (10 ∷ []) (lines_text ls))
     ∙ function_read line name (lines_text ls) r.0 ∙ ap (λ is. function line name ∷ is) (lines_read (line + 1) ls r.1)
 lines_read line (marks loop ∷ ls) r =
     ap (λ t. items_from (statements_of line t)) (append_assoc (label_name loop ++ 58 ∷ []) (10 ∷ []) (lines_text ls))
-    ∙ label_read line (label_name loop) (lines_text ls) (label_is_name loop r.0) ∙ ap (λ is. label line (label_name loop) ∷ is) (lines_read (line + 1) ls r.1)
+    ∙ label_read line (label_name loop) (lines_text ls) (label_is_name loop r.0)
+    ∙ ap (λ is. label line (label_name loop) ∷ is) (lines_read (line + 1) ls r.1)
 lines_read line (does b note ∷ ls) r =
     ap (λ t. items_from (statements_of line t)) (does_text (bundle_text b) note (lines_text ls))
     ∙ does_read line b note (lines_text ls) r.0.0 r.0.1 ∙ ap (λ is. bundle line b ∷ is) (lines_read (line + 1) ls r.1)

@@ -42,15 +42,20 @@ Stand functions labels at (remark note ∷ ls) bs = Stand functions labels at ls
 Stand functions labels at (begins name ∷ ls) bs = ⊥
 Stand functions labels at (marks loop ∷ ls) bs = Stand functions labels at ls bs
 Stand functions labels at (does b note ∷ ls) [] = ⊥
-Stand functions labels at (does b note ∷ ls) (s ∷ bs) = StandsFor functions labels at b s × Stand functions labels (at + bundle_words s) ls bs
+Stand functions labels at (does b note ∷ ls) (s ∷ bs) =
+    StandsFor functions labels at b s × Stand functions labels (at + bundle_words s) ls bs
 
-pub stand_both : (functions labels : Lookup) (at : ℕ) (ls ms : List Line) (bs cs : List Slots) → Stand functions labels at ls bs → Stand functions labels (at + bundles_words bs) ms cs
+pub stand_both : (functions labels : Lookup) (at : ℕ) (ls ms : List Line) (bs cs : List Slots)
+    → Stand functions labels at ls bs → Stand functions labels (at + bundles_words bs) ms cs
     → Stand functions labels at (ls ++ ms) (bs ++ cs)
 stand_both functions labels at [] ms [] cs s t = subst (λ n. Stand functions labels n ms cs) (omega arith) t
 stand_both functions labels at (remark note ∷ ls) ms bs cs s t = stand_both functions labels at ls ms bs cs s t
 stand_both functions labels at (marks loop ∷ ls) ms bs cs s t = stand_both functions labels at ls ms bs cs s t
-stand_both functions labels at (does b note ∷ ls) ms (x ∷ bs) cs s t =
-    (s.0, stand_both functions labels (at + bundle_words x) ls ms bs cs s.1 (subst (λ n. Stand functions labels n ms cs) (omega arith) t))
+stand_both functions labels at (does b note ∷ ls) ms (x ∷ bs) cs s t = (
+  s.0,
+  stand_both functions labels (at + bundle_words x) ls ms bs cs s.1 (subst (λ n. Stand functions labels n ms cs)
+      (omega arith) t),
+)
 stand_both functions labels at [] ms (x ∷ bs) cs s t = absurd s
 stand_both functions labels at (begins name ∷ ls) ms bs cs s t = absurd s
 stand_both functions labels at (does b note ∷ ls) ms [] cs s t = absurd s
@@ -58,16 +63,19 @@ stand_both functions labels at (does b note ∷ ls) ms [] cs s t = absurd s
 -- ---- sizes, functions, names, words
 
 module _ (functions labels : Lookup) (rest : List Item) where
-  pub stand_size : (line at : ℕ) (ls : List Line) (bs : List Slots) → Stand functions labels at ls bs → size_from (items_at line ls ++ rest) ≡ bundles_words bs + size_from rest
+  pub stand_size : (line at : ℕ) (ls : List Line) (bs : List Slots) → Stand functions labels at ls bs
+      → size_from (items_at line ls ++ rest) ≡ bundles_words bs + size_from rest
   stand_size line at [] [] s = omega arith
   stand_size line at [] (x ∷ bs) s = absurd s
   stand_size line at (remark note ∷ ls) bs s = stand_size (line + 1) at ls bs s
   stand_size line at (begins name ∷ ls) bs s = absurd s
   stand_size line at (marks loop ∷ ls) bs s = stand_size (line + 1) at ls bs s
   stand_size line at (does b note ∷ ls) [] s = absurd s
-  stand_size line at (does b note ∷ ls) (x ∷ bs) s = let size = s.0.size in let more = stand_size (line + 1) (at + bundle_words x) ls bs s.1 in omega (arith, size, more)
+  stand_size line at (does b note ∷ ls) (x ∷ bs) s = let size = s.0.size in let more = stand_size (line + 1)
+      (at + bundle_words x) ls bs s.1 in omega (arith, size, more)
 
-  pub stand_names : (line at : ℕ) (ls : List Line) (bs : List Slots) → Stand functions labels at ls bs → names_from (items_at line ls ++ rest) ≡ names_from rest
+  pub stand_names : (line at : ℕ) (ls : List Line) (bs : List Slots) → Stand functions labels at ls bs
+      → names_from (items_at line ls ++ rest) ≡ names_from rest
   stand_names line at [] [] s = refl
   stand_names line at [] (x ∷ bs) s = absurd s
   stand_names line at (remark note ∷ ls) bs s = stand_names (line + 1) at ls bs s
@@ -85,10 +93,12 @@ module _ (functions labels : Lookup) (rest : List Item) where
   stand_functions line at place (marks loop ∷ ls) bs s = stand_functions (line + 1) at place ls bs s
   stand_functions line at place (does b note ∷ ls) [] s = absurd s
   stand_functions line at place (does b note ∷ ls) (x ∷ bs) s =
-      stand_functions (line + 1) (at + bundle_words x) (place + size_of b) ls bs s.1 ∙ ap (λ n. functions_from n rest) (let size = s.0.size in omega (arith, size))
+      stand_functions (line + 1) (at + bundle_words x) (place + size_of b) ls bs s.1
+      ∙ ap (λ n. functions_from n rest) (let size = s.0.size in omega (arith, size))
 
   pub stand_words : (line at : ℕ) (ls : List Line) (bs : List Slots) → Stand functions labels at ls bs
-      → words_from functions labels at (items_at line ls ++ rest) ≡ codes bs ++ words_from functions labels (at + bundles_words bs) rest
+      → words_from functions labels at (items_at line ls ++ rest) ≡ codes bs
+      ++ words_from functions labels (at + bundles_words bs) rest
   stand_words line at [] [] s = ap (λ n. words_from functions labels n rest) (omega arith)
   stand_words line at [] (x ∷ bs) s = absurd s
   stand_words line at (remark note ∷ ls) bs s = stand_words (line + 1) at ls bs s
@@ -99,7 +109,8 @@ module _ (functions labels : Lookup) (rest : List Item) where
       ap (λ y. code y ++ words_from functions labels (at + size_of b) (items_at (line + 1) ls ++ rest)) s.0.is
       ∙ ap (λ n. code x ++ words_from functions labels (at + n) (items_at (line + 1) ls ++ rest)) s.0.size
       ∙ ap (λ ws. code x ++ ws) (stand_words (line + 1) (at + bundle_words x) ls bs s.1)
-      ∙ sym (append_assoc (code x) (codes bs) (words_from functions labels (at + bundle_words x + bundles_words bs) rest))
+      ∙ sym (append_assoc (code x) (codes bs) (words_from functions labels
+      (at + bundle_words x + bundles_words bs) rest))
       ∙ ap (λ n. codes (x ∷ bs) ++ words_from functions labels n rest) (omega arith)
 
 -- ---- labels
@@ -117,49 +128,65 @@ Rise n (does b note ∷ ls) = Rise n ls
 some_function : (before : Before) → length before.functions == 0 ≡ false → no_function before ≡ None
 some_function before e = rw e refl
 
--- lines have no fault where the statements behind them have none
-pub stand_faultless : (functions labels : Lookup) (rest : List Item) (line at n : ℕ) (before : Before) (ls : List Line) (bs : List Slots) → Stand functions labels at ls bs → Rise n ls
-    → before.size ≡ at → before.size + bundles_words bs ≤ 4096 → before.image + bundles_words bs ≤ 32768 → length before.functions == 0 ≡ false → AreFree n before.labels
-    → ((later : Before) → later.functions ≡ before.functions → later.size ≡ before.size + bundles_words bs → later.image ≡ before.image + bundles_words bs → first_fault functions labels later rest ≡ None)
+-- lines have no fault where the statements after them have none
+pub stand_faultless : (functions labels : Lookup) (rest : List Item) (line at n : ℕ) (before : Before) (ls : List Line)
+    (bs : List Slots) → Stand functions labels at ls bs → Rise n ls
+    → before.size ≡ at → before.size + bundles_words bs ≤ 4096 → before.image + bundles_words bs ≤ 32768
+    → length before.functions == 0 ≡ false → AreFree n before.labels
+    → ((later : Before) → later.functions ≡ before.functions → later.size ≡ before.size + bundles_words bs → later.image
+    ≡ before.image + bundles_words bs → first_fault functions labels later rest ≡ None)
     → first_fault functions labels before (items_at line ls ++ rest) ≡ None
-stand_faultless functions labels rest line at n before [] [] s r e small large some free end = end before refl (omega arith) (omega arith)
+stand_faultless functions labels rest line at n before [] [] s r e small large some free end =
+    end before refl (omega arith) (omega arith)
 stand_faultless functions labels rest line at n before [] (x ∷ bs) s r e small large some free end = absurd s
-stand_faultless functions labels rest line at n before (remark note ∷ ls) bs s r e small large some free end = stand_faultless functions labels rest (line + 1) at n before ls bs s r e small large some free end
+stand_faultless functions labels rest line at n before (remark note ∷ ls) bs s r e small large some free end =
+    stand_faultless functions labels rest (line + 1) at n before ls bs s r e small large some free end
 stand_faultless functions labels rest line at n before (begins name ∷ ls) bs s r e small large some free end = absurd s
 stand_faultless functions labels rest line at n before (marks loop ∷ ls) bs s r e small large some free end =
     none_first (label line (label_name loop)) (fault_of functions labels before (label line (label_name loop))) _
-    (label_none (is_among (label_name loop) before.labels) (length before.functions == 0) (free loop r.0 (omega (arith, r.1))) some)
-    (stand_faultless functions labels rest (line + 1) at (loop + 1) (after before (label line (label_name loop))) ls bs s r.2 e small large some
+    (label_none (is_among (label_name loop) before.labels) (length before.functions == 0)
+    (free loop r.0 (omega (arith, r.1))) some)
+    (stand_faultless functions labels rest (line + 1) at (loop + 1) (after before (label line (label_name loop))) ls bs
+    s r.2 e small large some
     (free_noted loop before.labels r.1 (λ m h k. free m (omega (arith, h, r.0)) k)) end)
 stand_faultless functions labels rest line at n before (does b note ∷ ls) [] s r e small large some free end = absurd s
 stand_faultless functions labels rest line at n before (does b note ∷ ls) (x ∷ bs) s r e small large some free end =
     let size = s.0.size in
     none_first (bundle line b) (fault_of functions labels before (bundle line b)) _
-    (bundle_none (is_known functions labels b.first.draft) (before.size + size_of b) (before.image + size_of b) (no_function before) s.0.known (omega (arith, size, small)) (omega (arith, size, large)) (some_function before some))
-    (stand_faultless functions labels rest (line + 1) (at + bundle_words x) n (after before (bundle line b)) ls bs s.1 r (omega (arith, size, e)) (omega (arith, size, small)) (omega (arith, size, large)) some free
+    (bundle_none (is_known functions labels b.first.draft) (before.size + size_of b) (before.image + size_of b)
+    (no_function before) s.0.known (omega (arith, size, small)) (omega (arith, size, large))
+    (some_function before some))
+    (stand_faultless functions labels rest (line + 1) (at + bundle_words x) n (after before (bundle line b)) ls bs s.1 r
+    (omega (arith, size, e)) (omega (arith, size, small)) (omega (arith, size, large)) some free
     (λ later f z i. end later f (omega (arith, z, size)) (omega (arith, i, size))))
 
 -- ---- what can be read back
 
-fits_first : (d : Draft) (functions labels : Lookup) (at : ℕ) → FitsOp (placed_op functions labels at d) → IsNamed d → IsPrintableDraft d
+fits_first : (d : Draft) (functions labels : Lookup) (at : ℕ) → FitsOp (placed_op functions labels at d) → IsNamed d
+    → IsPrintableDraft d
 fits_first (ready o) functions labels at f n = (f, n)
 fits_first (to flow name) functions labels at f n = n
 
 both_true : (a b : Bool) → IsTrue (not a && b) → (a ≡ false) × (b ≡ true)
 both_true a b h = grind (arith, h)
 
-fits_second : (functions labels : Lookup) (at : ℕ) (g : Guard) (d : Draft) (second : Option Instr) → FitsBundle (record { first = record { guard = g; op = placed_op functions labels at d }; second = second })
+fits_second : (functions labels : Lookup) (at : ℕ) (g : Guard) (d : Draft) (second : Option Instr)
+    → FitsBundle (record { first = record { guard = g; op = placed_op functions labels at d }; second = second })
     → IsPrintableSecond d second
 fits_second functions labels at g d None f = tt
 fits_second functions labels at g (ready o) (Some i) f =
     let legal = both_true (is_long o) (is_second_kind i.op) f.legal in
     (f.second.0, f.second.1, legal.1, legal.0)
-fits_second functions labels at g (to Branch name) (Some i) f = (f.second.0, f.second.1, (both_true false (is_second_kind i.op) f.legal).1, refl)
-fits_second functions labels at g (to Call name) (Some i) f = (f.second.0, f.second.1, (both_true false (is_second_kind i.op) f.legal).1, refl)
-fits_second functions labels at g (to BranchFill name) (Some i) f = (f.second.0, f.second.1, (both_true false (is_second_kind i.op) f.legal).1, refl)
+fits_second functions labels at g (to Branch name) (Some i) f =
+    (f.second.0, f.second.1, (both_true false (is_second_kind i.op) f.legal).1, refl)
+fits_second functions labels at g (to Call name) (Some i) f =
+    (f.second.0, f.second.1, (both_true false (is_second_kind i.op) f.legal).1, refl)
+fits_second functions labels at g (to BranchFill name) (Some i) f =
+    (f.second.0, f.second.1, (both_true false (is_second_kind i.op) f.legal).1, refl)
 
 -- a bundle whose fields are in their ranges
-printable : (functions labels : Lookup) (at : ℕ) (b : DraftBundle) (s : Slots) → StandsFor functions labels at b s → FitsBundle s → IsPrintable b
+printable : (functions labels : Lookup) (at : ℕ) (b : DraftBundle) (s : Slots) → StandsFor functions labels at b s
+    → FitsBundle s → IsPrintable b
 printable functions labels at b s stands fits =
     let f : FitsBundle (placed functions labels at b) = subst FitsBundle (sym stands.is) fits in
     record {
@@ -187,11 +214,17 @@ pub readable_both : (ls ms : List Line) → AreReadable ls → AreReadable ms �
 readable_both [] ms a b = b
 readable_both (l ∷ ls) ms a b = (a.0, readable_both ls ms a.1 b)
 
-pub stand_readable : (functions labels : Lookup) (at n : ℕ) (ls : List Line) (bs : List Slots) → Stand functions labels at ls bs → All FitsBundle bs → AreInline ls → Rise n ls → AreReadable ls
+pub stand_readable : (functions labels : Lookup) (at n : ℕ) (ls : List Line) (bs : List Slots)
+    → Stand functions labels at ls bs → All FitsBundle bs → AreInline ls → Rise n ls → AreReadable ls
 stand_readable functions labels at n [] bs s f i r = tt
-stand_readable functions labels at n (remark note ∷ ls) bs s f i r = (i.0, stand_readable functions labels at n ls bs s f i.1 r)
+stand_readable functions labels at n (remark note ∷ ls) bs s f i r =
+    (i.0, stand_readable functions labels at n ls bs s f i.1 r)
 stand_readable functions labels at n (begins name ∷ ls) bs s f i r = absurd s
-stand_readable functions labels at n (marks loop ∷ ls) bs s f i r = (omega (arith, r.1), stand_readable functions labels at (loop + 1) ls bs s f i.1 r.2)
+stand_readable functions labels at n (marks loop ∷ ls) bs s f i r =
+    (omega (arith, r.1), stand_readable functions labels at (loop + 1) ls bs s f i.1 r.2)
 stand_readable functions labels at n (does b note ∷ ls) [] s f i r = absurd s
-stand_readable functions labels at n (does b note ∷ ls) (x ∷ bs) s f i r =
-    ((printable functions labels at b x s.0 (All-head FitsBundle x bs f), i.0), stand_readable functions labels (at + bundle_words x) n ls bs s.1 (All-tail FitsBundle x bs f) i.1 r)
+stand_readable functions labels at n (does b note ∷ ls) (x ∷ bs) s f i r = (
+  (printable functions labels at b x s.0 (All-head FitsBundle x bs f), i.0),
+  stand_readable functions labels
+      (at + bundle_words x) n ls bs s.1 (All-tail FitsBundle x bs f) i.1 r,
+)

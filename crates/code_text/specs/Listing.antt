@@ -64,7 +64,7 @@ abbrev mutual
   parts_loops no_part = 0
   parts_loops (part p rest) = part_loops p + parts_loops rest
 
--- before a loop its number and its iterations, and behind it its number
+-- before a loop its number and its iterations, and after it its number
 abbrev pub loop_begin : ℕ → ℕ → Line
 loop_begin loop iterations = remark (codes "loop " ++ label_name loop ++ codes " iterations " ++ decimal iterations)
 

@@ -159,7 +159,7 @@ fn write_line(
 }
 
 /// Adds the lines of bundles of a function of these words, the first of which stands at an offset; and tells the offset
-/// behind them.
+/// after them.
 pub fn write_bundles(
     text: &mut String,
     names: &[Text],

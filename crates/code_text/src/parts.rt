@@ -31,14 +31,14 @@ fn write_begin(text: &mut String, loop_number: u32, count: u32) -> Result<(), Al
     )
 }
 
-// adds the line behind a loop
+// adds the line after a loop
 fn write_end(text: &mut String, loop_number: u32) -> Result<(), AllocError>
     ensures { OnOk result (string_bytes text.new ≡ string_bytes text.old ++ line_text (specs.loop_end loop_number)) }
 {
     write!(text, "# end L{loop_number}\n")
 }
 
-// adds the lines of a part at a spot, and tells the spot behind it
+// adds the lines of a part at a spot, and tells the spot after it
 #[cycle(write)]
 fn write_part(
     text: &mut String,
@@ -87,7 +87,7 @@ fn write_part(
     }
 }
 
-/// Adds the lines of parts of a function of these words at a spot, and tells the spot behind them.
+/// Adds the lines of parts of a function of these words at a spot, and tells the spot after them.
 #[cycle(write)]
 pub fn write_parts(
     text: &mut String,

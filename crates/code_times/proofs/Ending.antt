@@ -37,13 +37,14 @@ use Rattle.code_core.specs.Words.{AreGiven}
 use Rattle.code_core.specs.Goes.{by_stack, goal_events, run_events}
 use Rattle.code_core.specs.Sound.{IsSound, AreSound, bundles_in}
 use Rattle.code_core.proofs.Fixed.{fixed, steady_trail}
-use Rattle.code_core.proofs.Shapes.{start_behind, ends}
+use Rattle.code_core.proofs.Shapes.{start_after, ends}
 use Rattle.code_times.specs.Costs.{costs, AreFew}
 use Rattle.code_times.proofs.Bounded.{clock_costs, fixed_cost, shape_costs}
 
 -- ---- stack instructions are few
 
-few_event : (site : Site) (e : Effect) (p : Pointers) (k : Memory) (es : List Event) → IsSound site e p k → AreFew es → AreFew (event_of e ∷ es)
+few_event : (site : Site) (e : Effect) (p : Pointers) (k : Memory) (es : List Event) → IsSound site e p k → AreFew es
+    → AreFew (event_of e ∷ es)
 few_event site (effect.Load mem.S width rd address) p k es s few = few
 few_event site (effect.Store mem.S width address value) p k es s few = few
 few_event site (effect.Store mem.L width address value) p k es s few = few
@@ -65,42 +66,62 @@ few_goal image (Some (goal.Return base offset)) es few = by (base == 0)
     by true = few
     by false = few
 
-few_events : (site : Site) (image : Parts) (from : Sources) (steps : List Step) (ds : List (Option Goal)) (m : Run) → AreSound site from steps m → AreFew (run_events image from steps ds m)
+few_events : (site : Site) (image : Parts) (from : Sources) (steps : List Step) (ds : List (Option Goal)) (m : Run)
+    → AreSound site from steps m → AreFew (run_events image from steps ds m)
 few_events site image from [] ds m sound = tt
 few_events site image from (does b ∷ steps) [] m sound = tt
 few_events site image from (does b ∷ steps) (d ∷ ds) m sound =
-    few_event site (effect_of b m.regs) (pointers_of m) m.memory (goal_events image d ++ run_events image from steps ds (late from b m)) sound.0
-    (few_goal image d (run_events image from steps ds (late from b m)) (few_events site image from steps ds (late from b m) sound.1))
+    few_event site (effect_of b m.regs) (pointers_of m) m.memory (goal_events image d
+    ++ run_events image from steps ds (late from b m)) sound.0
+    (few_goal image d (run_events image from steps ds (late from b m)) (few_events site image from steps ds
+    (late from b m) sound.1))
 few_events site image from (begins ∷ steps) ds m sound = few_events site image from steps ds (run_begun m) sound
 
-module _ (place : Place) (s : PlainShape) (addresses : List ℕ) (link : IsLinkable s) (behaves : Behaves s place addresses) (slots : IsSlotted (site_of place (linked s))) (among : place.core < place.cores) where
+module _ (place : Place) (s : PlainShape) (addresses : List ℕ) (link : IsLinkable s)
+    (behaves : Behaves s place addresses) (slots : IsSlotted (site_of place (linked s)))
+    (among : place.core < place.cores) where
   pub few_fixed : AreFew (fixed_events (linked s) (trail s) (dues_of s (back 0 0)) addresses)
   few_fixed =
       let m : Run = begun_run s [] in
       let fits : FitsRegisters m.regs = record { count = refl; pred_count = refl; zero = refl; always = refl } in
-      subst AreFew (fixed (linked s) by_stack (trail s) (dues_of s (back 0 0)) m (steady_trail s link.steady) fits ∙ ap (fixed_events (linked s) (trail s) (dues_of s (back 0 0))) (behaves.same no_memory [] tt))
-      (few_events (site_of place (linked s)) (linked s) by_stack (trail s) (dues_of s (back 0 0)) m (behaves.sound no_memory [] tt))
+      subst AreFew (fixed (linked s) by_stack (trail s) (dues_of s (back 0 0)) m (steady_trail s link.steady) fits
+      ∙ ap (fixed_events (linked s) (trail s) (dues_of s (back 0 0))) (behaves.same no_memory [] tt))
+      (few_events (site_of place (linked s)) (linked s) by_stack (trail s) (dues_of s (back 0 0)) m
+      (behaves.sound no_memory [] tt))
 
   -- the cycle in which the task has ended is the one in which its events are over
-  pub cycle_is : (input values : List ℕ) → AreGiven input values → (after_bundles place.cores place.core (begun (site_of place (linked s)) input) values (bundles_in (trail s))).cycle
-      ≡ (clock (site_of place (linked s)) (first_event (site_of place (linked s)) ∷ fixed_events (linked s) (trail s) (dues_of s (back 0 0)) addresses) (starting (site_of place (linked s)))).free
+  pub cycle_is : (input values : List ℕ) → AreGiven input values
+      → (after_bundles place.cores place.core (begun (site_of place (linked s)) input) values
+      (bundles_in (trail s))).cycle
+      ≡ (clock (site_of place (linked s)) (first_event (site_of place (linked s)) ∷ fixed_events (linked s) (trail s)
+      (dues_of s (back 0 0)) addresses) (starting (site_of place (linked s)))).free
   cycle_is input values given =
       clock_cycle place.cores place.core (site_of place (linked s)) input values (bundles_in (trail s)) slots
-      ∙ ap (λ es. (clock (site_of place (linked s)) es (starting (site_of place (linked s)))).free) (ends place s addresses link behaves slots among input values given).events
+      ∙ ap (λ es. (clock (site_of place (linked s)) es (starting (site_of place (linked s)))).free)
+      (ends place s addresses link behaves slots among input values given).events
 
   -- and that comes within the bound
-  pub clock_within : (clock (site_of place (linked s)) (first_event (site_of place (linked s)) ∷ fixed_events (linked s) (trail s) (dues_of s (back 0 0)) addresses) (starting (site_of place (linked s)))).free
+  pub clock_within : (clock (site_of place (linked s)) (first_event (site_of place (linked s))
+      ∷ fixed_events (linked s) (trail s) (dues_of s (back 0 0)) addresses) (starting (site_of place (linked s)))).free
       ≤ place.start + shape_bound (most_in_slot (site_of place (linked s))) s
   clock_within =
       let site : Site = site_of place (linked s) in
       let each : ℕ = most_in_slot site in
-      let time = clock_costs site (first_event site ∷ fixed_events (linked s) (trail s) (dues_of s (back 0 0)) addresses) (starting site) slots few_fixed refl (omega arith) in
-      let a = and_parts (nat_le (length s.functions) MOST_FUNCTIONS) (functions_formed s.functions (length s.functions) && nat_lt s.entry (length s.functions)) link.formed in
+      let time = clock_costs site (first_event site ∷ fixed_events (linked s) (trail s) (dues_of s
+      (back 0 0)) addresses) (starting site) slots few_fixed refl (omega arith) in
+      let a = and_parts (nat_le (length s.functions) MOST_FUNCTIONS) (functions_formed s.functions (length s.functions)
+      && nat_lt s.entry (length s.functions)) link.formed in
       let b = and_parts (functions_formed s.functions (length s.functions)) (nat_lt s.entry (length s.functions)) a.1 in
-      let first : each * transactions (1 + size_at (linked s) (start_of s s.entry)) ≡ each * fill_moves s.functions s.entry = ap (λ w. each * transactions (1 + w)) (size_stands s s.entry (ltb-true s.entry (length s.functions) b.1)) in
-      let rest : costs each (fixed_events (linked s) (trail s) (dues_of s (back 0 0)) addresses) ≡ bounds s.functions each (fill_bound each s.functions) (length s.functions) s.entry =
-      fixed_cost (linked s) each (trail s) (dues_of s (back 0 0)) addresses ∙ shape_costs (linked s) each s (size_stands s) (λ k. start_behind (size_of s) s.entry k) link.formed in
+      let first : each * transactions (1 + size_at (linked s) (start_of s s.entry))
+      ≡ each * fill_moves s.functions s.entry = ap (λ w. each * transactions (1 + w)) (size_stands s s.entry
+      (ltb-true s.entry (length s.functions) b.1)) in
+      let rest : costs each (fixed_events (linked s) (trail s) (dues_of s (back 0 0)) addresses)
+      ≡ bounds s.functions each (fill_bound each s.functions) (length s.functions) s.entry =
+      fixed_cost (linked s) each (trail s) (dues_of s (back 0 0)) addresses
+      ∙ shape_costs (linked s) each s (size_stands s) (λ k. start_after (size_of s) s.entry k) link.formed in
       omega (arith, time, first, rest)
 
-  pub ends_within : (input values : List ℕ) → AreGiven input values → (after_bundles place.cores place.core (begun (site_of place (linked s)) input) values (bundles_in (trail s))).cycle ≤ place.start + shape_bound (most_in_slot (site_of place (linked s))) s
+  pub ends_within : (input values : List ℕ) → AreGiven input values
+      → (after_bundles place.cores place.core (begun (site_of place (linked s)) input) values
+      (bundles_in (trail s))).cycle ≤ place.start + shape_bound (most_in_slot (site_of place (linked s))) s
   ends_within input values given = omega (arith, cycle_is input values given, clock_within)

@@ -30,7 +30,8 @@ use Rattle.code_core.proofs.Shapes.{ends}
 use Rattle.code_times.proofs.Exact.{stands_so}
 
 -- a core whose state is that it was stopped was stopped
-stopped_status : (limit : ℕ) (x : Plain) (fault : Trap) (at : ℕ) → state_at limit x ≡ outcome.Trapped fault at → x.status ≡ Trapped fault at
+stopped_status : (limit : ℕ) (x : Plain) (fault : Trap) (at : ℕ) → state_at limit x ≡ outcome.Trapped fault at
+    → x.status ≡ Trapped fault at
 stopped_status limit x fault at is = by x.status refl
   where
     ran : (b : Bool) → elim b as (λ _. CoreState) [
@@ -50,8 +51,15 @@ stopped_status limit x fault at is = by x.status refl
       | Trapped trap cycle ↦ outcome.Trapped trap cycle
     ]
 
-    alike : (other : Trap) (then : ℕ) → outcome.Trapped other then ≡ outcome.Trapped fault at → Trapped other then ≡ Trapped fault at
-    alike other then e = ap (λ (s : CoreState). elim s as (λ _. Status) [ outcome.Idle ↦ Idle | outcome.Running ↦ Running | outcome.Done a b c ↦ Running | outcome.Trapped t c ↦ Trapped t c ]) e
+    alike : (other : Trap) (then : ℕ) → outcome.Trapped other then ≡ outcome.Trapped fault at → Trapped other then
+        ≡ Trapped fault at
+    alike other then e = ap (λ (s : CoreState). elim s as (λ _. Status) [
+      | outcome.Idle ↦ Idle
+      | outcome.Running ↦
+          Running
+      | outcome.Done a b c ↦ Running
+      | outcome.Trapped t c ↦ Trapped t c
+    ]) e
 
     by : (s : Status) → x.status ≡ s → x.status ≡ Trapped fault at
     by Idle same = absurd (let bad : outcome.Idle ≡ outcome.Trapped fault at = sym (ap told same) ∙ is in cc)
@@ -59,26 +67,47 @@ stopped_status limit x fault at is = by x.status refl
     by (Trapped other then) same = same ∙ alike other then (sym (ap told same) ∙ is)
 
 not_running : (x : Plain) (fault : Trap) (at : ℕ) → x.status ≡ Trapped fault at → is_running x ≡ false
-not_running x fault at is = ap (λ (s : Status). elim s as (λ _. Bool) [ Idle ↦ false | Running ↦ elim (has_ended x) [ true ↦ false | false ↦ true ] | Trapped t c ↦ false ]) is
+not_running x fault at is = ap (λ (s : Status). elim s as (λ _. Bool) [
+  | Idle ↦ false
+  | Running ↦ elim (has_ended x)
+      [ true ↦ false | false ↦ true ]
+  | Trapped t c ↦ false
+]) is
 
-module _ (place : Place) (s : PlainShape) (addresses : List ℕ) (link_s : IsLinkable s) (behaves_so : Behaves s place addresses) (slots : IsSlotted (site_of place (linked s))) (among : place.core < place.cores) where
-  pub never_stopped : (input values : List ℕ) → AreGiven input values → (cycles : ℕ) (fault : Trap) (at : ℕ) → (apart_at place (linked s) input values cycles).core.plain.status ≡ Trapped fault at → ⊥
+module _ (place : Place) (s : PlainShape) (addresses : List ℕ) (link_s : IsLinkable s)
+    (behaves_so : Behaves s place addresses) (slots : IsSlotted (site_of place (linked s)))
+    (among : place.core < place.cores) where
+  pub never_stopped : (input values : List ℕ) → AreGiven input values → (cycles : ℕ) (fault : Trap) (at : ℕ)
+      → (apart_at place (linked s) input values cycles).core.plain.status ≡ Trapped fault at → ⊥
   never_stopped input values given cycles fault at is =
       let site : Site = site_of place (linked s) in
       let m : Moment = after_bundles place.cores place.core (begun site input) values (bundles_in (trail s)) in
       let far : ℕ = place.start + shape_bound (most_in_slot site) s in
-      let e : IsFollowed place s addresses input values = ends place s addresses link_s behaves_so slots among input values given in
-      let here : (before place.cores place.core (begun site input) values cycles).told.run ≡ apart_at place (linked s) input values cycles = run_before place.cores place.core (begun site input) values cycles in
-      let there : (before place.cores place.core (begun site input) values (cycles + far)).told.run ≡ apart_at place (linked s) input values (cycles + far) = run_before place.cores place.core (begun site input) values (cycles + far) in
-      let trapped : (core_in (before place.cores place.core (begun site input) values cycles)).plain.status ≡ Trapped fault at = ap (λ (a : Alone Core). a.core.plain.status) here ∙ is in
-      let same : IsSameTask (core_in (before place.cores place.core (begun site input) values cycles)) (core_in (before place.cores place.core (begun site input) values (cycles + far))) =
-      stays_still place.cores place.core (begun site input) values cycles far (not_running (core_in (before place.cores place.core (begun site input) values cycles)).plain fault at trapped) in
-      let last : IsSameTask (core_in m) (apart_at place (linked s) input values (cycles + far)).core = stands_so place s addresses link_s behaves_so slots among input values given (cycles + far) (omega arith) in
+      let e : IsFollowed place s addresses input values =
+      ends place s addresses link_s behaves_so slots among input values given in
+      let here : (before place.cores place.core (begun site input) values cycles).told.run
+      ≡ apart_at place (linked s) input values cycles =
+      run_before place.cores place.core (begun site input) values cycles in
+      let there : (before place.cores place.core (begun site input) values (cycles + far)).told.run
+      ≡ apart_at place (linked s) input values (cycles + far) =
+      run_before place.cores place.core (begun site input) values (cycles + far) in
+      let trapped : (core_in (before place.cores place.core (begun site input) values cycles)).plain.status
+      ≡ Trapped fault at = ap (λ (a : Alone Core). a.core.plain.status) here ∙ is in
+      let same : IsSameTask (core_in (before place.cores place.core (begun site input) values cycles))
+      (core_in (before place.cores place.core (begun site input) values (cycles + far))) =
+      stays_still place.cores place.core (begun site input) values cycles far
+      (not_running (core_in (before place.cores place.core (begun site input) values cycles)).plain
+      fault at trapped) in
+      let last : IsSameTask (core_in m) (apart_at place (linked s) input values (cycles + far)).core =
+      stands_so place s addresses link_s behaves_so slots among input values given (cycles + far) (omega arith) in
       let bad : Trapped fault at ≡ Running =
-      sym trapped ∙ sym (ap (λ (c : Core). c.plain.status) same) ∙ ap (λ (a : Alone Core). a.core.plain.status) there ∙ ap (λ (c : Core). c.plain.status) last ∙ e.status in
+      sym trapped ∙ sym (ap (λ (c : Core). c.plain.status) same) ∙ ap (λ (a : Alone Core). a.core.plain.status) there
+      ∙ ap (λ (c : Core). c.plain.status) last ∙ e.status in
       cc
 
   -- at no number of cycles is its state that a check stopped it
-  pub never_trapped : (input values : List ℕ) → AreGiven input values → (cycles : ℕ) (fault : Trap) (at : ℕ) → state_at cycles (apart_at place (linked s) input values cycles).core.plain ≡ outcome.Trapped fault at → ⊥
+  pub never_trapped : (input values : List ℕ) → AreGiven input values → (cycles : ℕ) (fault : Trap) (at : ℕ)
+      → state_at cycles (apart_at place (linked s) input values cycles).core.plain ≡ outcome.Trapped fault at → ⊥
   never_trapped input values given cycles fault at is =
-      never_stopped input values given cycles fault at (stopped_status cycles (apart_at place (linked s) input values cycles).core.plain fault at is)
+      never_stopped input values given cycles fault at
+      (stopped_status cycles (apart_at place (linked s) input values cycles).core.plain fault at is)

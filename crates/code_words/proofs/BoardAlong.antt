@@ -1,5 +1,5 @@
 -- Along a walk the words that other cores reach too are the run's, where each of the task's own loads of them is true.
-use Rattle.std.proofs.Common.{◌≡◌, ℕ, zero, suc, ◌-◌, Bool, true, false, List, [], ◌++◌, inl, refl, sym, ap, ◌∙◌, subst, append_assoc, append-nil}
+use Rattle.std.proofs.Common.{◌≡◌, ℕ, zero, suc, Bool, true, false, List, [], ◌++◌, inl, refl, sym, ap, ◌∙◌, subst, append_assoc, append-nil}
 use Rattle.slot_arbiter.specs.Stamp.{stamp}
 use Rattle.shared_order.specs.declared.operation.Operation.{Operation}
 use Rattle.shared_order.specs.Program.{Prog, and_then, fed}
@@ -9,16 +9,15 @@ use Rattle.patmos_instr.specs.Bundles.{Slots}
 use Rattle.patmos_sem.specs.Bundles.{effect_of}
 use Rattle.patmos_sem.specs.declared.effects.Effect.{Effect}
 use Rattle.patmos_model.specs.Bundle.{advanced, bundle}
-use Rattle.patmos_model.specs.Bursts.{slots_of}
 use Rattle.patmos_model.specs.Cells.{Acted}
 use Rattle.patmos_model.specs.Cycle.{settled}
 use Rattle.patmos_model.specs.Transaction.{transaction}
 use Rattle.patmos_model.specs.Site.{Site}
 use Rattle.patmos_model.specs.State.{Core, with_plain, is_running}
 use Rattle.core_pace.specs.Moment.{Moment, core_in}
-use Rattle.core_pace.specs.Next.{acting, bundled, landing, transacted, waited, until, moved_once, moved, freed, all_moved, next}
-use Rattle.core_pace.specs.Spans.{start_in}
-use Rattle.core_pace.proofs.Listed.{waited_own}
+use Rattle.core_pace.specs.Next.{acting, bundled, landing, all_moved, next}
+use Rattle.core_pace.specs.Growth.{BeginsWith}
+use Rattle.core_pace.proofs.Listed.{waited_own, all_moved_keeps}
 use Rattle.core_pace.specs.Run.{onward}
 use Rattle.sp_shape.specs.Pointers.{pointers_of}
 use Rattle.sp_shape.specs.Run.{Run, effected, late}
@@ -48,51 +47,40 @@ none_made n core site input values = holds_first n core site input values (λ c 
 -- ---- what was made stays made
 
 module _ (n core : ℕ) where
-  abbrev IsPrefix : List Operation → List Operation → Type 0
-  IsPrefix xs ys = (more : List Operation) × (ys ≡ xs ++ more)
+  begins_then : (xs ys zs : List Operation) → BeginsWith ys xs → BeginsWith zs ys → BeginsWith zs xs
+  begins_then xs ys zs a b = (a.0 ++ b.0, b.1 ∙ ap (λ l. l ++ b.0) a.1 ∙ append_assoc xs a.0 b.0)
 
-  prefix_then : (xs ys zs : List Operation) → IsPrefix xs ys → IsPrefix ys zs → IsPrefix xs zs
-  prefix_then xs ys zs a b = (a.0 ++ b.0, b.1 ∙ ap (λ l. l ++ b.0) a.1 ∙ append_assoc xs a.0 b.0)
+  acting_grows : (xs : List Operation) (p : Prog Acted) (m : Moment) → BeginsWith m.told.own xs
+      → BeginsWith (acting n core p m).told.own xs
+  acting_grows xs p m h = begins_then xs m.told.own (acting n core p m).told.own h
+      ((fed (stamp n core m.cycle 1) (and_then p settled) m.told.run.left).ops, refl)
 
-  acting_grows : (p : Prog Acted) (m : Moment) → IsPrefix m.told.own (acting n core p m).told.own
-  acting_grows p m = ((fed (stamp n core m.cycle 1) (and_then p settled) m.told.run.left).ops, refl)
+  all_moved_grows : (xs : List Operation) (m : Moment) → BeginsWith m.told.own xs
+      → BeginsWith (all_moved n core m).told.own xs
+  all_moved_grows xs = all_moved_keeps n core (λ z. BeginsWith z.told.own xs) (λ d z h. subst (λ l. BeginsWith l xs)
+      (sym (waited_own n core d z)) h) (λ z h. acting_grows xs (transaction z.cycle (core_in z)) z h)
 
-  waited_grows : (d : ℕ) (m : Moment) → IsPrefix m.told.own (waited n core d m).told.own
-  waited_grows d m = ([], waited_own n core d m ∙ sym (append-nil m.told.own))
-
-  moved_grows : (count : ℕ) (m : Moment) → IsPrefix m.told.own (moved n core count m).told.own
-  moved_grows zero m = ([], sym (append-nil m.told.own))
-  moved_grows (suc count) m =
-      let wait : ℕ = start_in (core_in m).plain.site m.cycle - m.cycle in
-      let at : Moment = until n core (start_in (core_in m).plain.site m.cycle) m in
-      let a = prefix_then m.told.own at.told.own (transacted n core at).told.own (waited_grows wait m) (acting_grows (transaction at.cycle (core_in at)) at) in
-      let b = prefix_then m.told.own (transacted n core at).told.own (moved_once n core m).told.own a (waited_grows (core_in m).plain.site.slot (transacted n core at)) in
-      prefix_then m.told.own (moved_once n core m).told.own (moved n core count (moved_once n core m)).told.own b (moved_grows count (moved_once n core m))
-
-  all_moved_grows : (m : Moment) → IsPrefix m.told.own (all_moved n core m).told.own
-  all_moved_grows m =
-      let z : Moment = moved n core (slots_of (core_in m).plain.transfer.words) m in
-      prefix_then m.told.own z.told.own (freed n core z).told.own (moved_grows (slots_of (core_in m).plain.transfer.words) m) (waited_grows ((core_in z).plain.free - z.cycle) z)
-
-  next_grows : (m : Moment) → IsPrefix m.told.own (next n core m).told.own
+  next_grows : (m : Moment) → BeginsWith (next n core m).told.own m.told.own
   next_grows m =
+      let xs : List Operation = m.told.own in
       let b : Moment = bundled n core m in
-      let a : Moment = all_moved n core b in
-      prefix_then m.told.own a.told.own (next n core m).told.own
-      (prefix_then m.told.own b.told.own a.told.own (acting_grows (bundle m.cycle (core_in m)) m) (all_moved_grows b)) (all_moved_grows (landing a))
+      all_moved_grows xs (landing (all_moved n core b))
+      (all_moved_grows xs b (acting_grows xs (bundle m.cycle (core_in m)) m ([], sym (append-nil xs))))
 
-  onward_grows : (m : Moment) → IsPrefix m.told.own (onward n core m).told.own
+  onward_grows : (m : Moment) → BeginsWith (onward n core m).told.own m.told.own
   onward_grows m = by (is_running (core_in m).plain)
     where
-      by : (b : Bool) → IsPrefix m.told.own (elim b as (λ _. Moment) [ true ↦ next n core m | false ↦ m ]).told.own
+      by : (b : Bool) → BeginsWith (elim b as (λ _. Moment) [ true ↦ next n core m | false ↦ m ]).told.own m.told.own
       by true = next_grows m
       by false = ([], sym (append-nil m.told.own))
 
-  onwards_grows : (count : ℕ) (m : Moment) → IsPrefix m.told.own (onwards n core count m).told.own
+  onwards_grows : (count : ℕ) (m : Moment) → BeginsWith (onwards n core count m).told.own m.told.own
   onwards_grows zero m = ([], sym (append-nil m.told.own))
-  onwards_grows (suc count) m = prefix_then m.told.own (onward n core m).told.own (onwards n core count (onward n core m)).told.own (onward_grows m) (onwards_grows count (onward n core m))
+  onwards_grows (suc count) m = begins_then m.told.own (onward n core m).told.own
+      (onwards n core count (onward n core m)).told.own (onward_grows m) (onwards_grows count (onward n core m))
 
-module _ (n core : ℕ) (x : Core) (values : List ℕ) (Cached : ℕ → Type 0) (are_own : AreOwn Cached) (world : ℕ → ℕ) (board : ℕ) (place_is : x.plain.site.core ≡ board) where
+module _ (n core : ℕ) (x : Core) (values : List ℕ) (Cached : ℕ → Type 0) (are_own : AreOwn Cached) (world : ℕ → ℕ)
+    (board : ℕ) (place_is : x.plain.site.core ≡ board) where
   -- a run's words are those that the task's own stores left of the world
   abbrev pub BoardBeside : Run → Moment → Type 0
   BoardBeside r m = HoldsBoard board r.memory (after m.told.own world)
@@ -101,16 +89,24 @@ module _ (n core : ℕ) (x : Core) (values : List ℕ) (Cached : ℕ → Type 0)
   TrueSoFar m = Sees world m.told.own
 
   true_still : (count : ℕ) (m : Moment) → TrueSoFar (onwards n core count m) → TrueSoFar m
-  true_still count m so = let p = onwards_grows n core count m in sees_first world m.told.own p.0 (subst (λ l. Sees world l) p.1 so)
+  true_still count m so =
+      let p = onwards_grows n core count m in sees_first world m.told.own p.0 (subst (λ l. Sees world l) p.1 so)
 
-  board_behind : (w : Walk) (b : Slots) (m : Moment) → Stands n core x values w m → (f : Fetches x.plain.site.image b (flowed w))
-      → IsSound x.plain.site (effect_of f.bundle (flowed w).run.regs) (pointers_of (flowed w).run) (flowed w).run.memory → KeepsApart Cached (effect_of f.bundle (flowed w).run.regs)
+  board_after : (w : Walk) (b : Slots) (m : Moment) → Stands n core x values w m
+      → (f : Fetches x.plain.site.image b (flowed w))
+      → IsSound x.plain.site (effect_of f.bundle (flowed w).run.regs) (pointers_of (flowed w).run) (flowed w).run.memory
+      → KeepsApart Cached (effect_of f.bundle (flowed w).run.regs)
       → BoardBeside (flowed w).run m → TrueSoFar (next n core m)
-      → Behind n core x values (KeepsApart Cached) IsBoardWord BoardBeside TrueSoFar (effect_of f.bundle (flowed w).run.regs) (flowed w).run (late by_stack f.bundle (flowed w).run) m
-  board_behind w b m st f sound apart h so = record {
-    beside = subst (λ (z : Run). BoardBeside z (next n core m)) (sym k.late_is) (subst (λ ops. HoldsBoard board r.memory (after ops world)) (sym own_is) told.holds_board);
-    says = subst (λ e. OfLoad IsBoardWord e (flowed w).run.memory (pending_value (core_in (next n core m)).plain.regs.pending)) (sym k.asks)
-        (of_pending IsBoardWord c.plain.site e (entered (flowed w).run f.bundle c) k.comes.value (core_in a).plain.regs (core_in (next n core m)).plain.regs d.plain.regs k.sound (next_pending n core m k.moved) k.comes.is_like.regs told.own);
+      → Behind n core x values (KeepsApart Cached) IsBoardWord BoardBeside TrueSoFar (effect_of f.bundle
+      (flowed w).run.regs) (flowed w).run (late by_stack f.bundle (flowed w).run) m
+  board_after w b m st f sound apart h so = record {
+    beside = subst (λ (z : Run). BoardBeside z (next n core m)) (sym k.late_is)
+        (subst (λ ops. HoldsBoard board r.memory (after ops world)) (sym own_is) told.holds_board);
+    says = subst (λ e. OfLoad IsBoardWord e (flowed w).run.memory
+        (pending_value (core_in (next n core m)).plain.regs.pending)) (sym k.asks)
+        (of_pending IsBoardWord c.plain.site e (entered (flowed w).run f.bundle c) k.comes.value (core_in a).plain.regs
+        (core_in (next n core m)).plain.regs d.plain.regs k.sound (next_pending n core m k.moved)
+        k.comes.is_like.regs told.own);
   }
     where
       k : Doing n core x values w f.bundle f.words m
@@ -132,12 +128,15 @@ module _ (n core : ℕ) (x : Core) (values : List ℕ) (Cached : ℕ → Type 0)
       r = effected by_stack e (entered (flowed w).run f.bundle c)
 
       own_is : (next n core m).told.own ≡ a.told.own
-      own_is = all_settles_by n core (λ z ops. ops ≡ a.told.own) (made_of_both a.told.own) (landing a) (settled_by refl (landed_pending a.cycle (core_in a) (inl k.moved)).rests)
+      own_is = all_settles_by n core (λ z ops. ops ≡ a.told.own) (made_of_both a.told.own) (landing a)
+          (settled_by refl (landed_pending a.cycle (core_in a) (inl k.moved)).rests)
 
       told : Tells world board (OfLoad IsBoardWord e (flowed w).run.memory k.comes.value) r.memory a.told.own
       told =
-          board_left world board Cached are_own c.plain.site (entered (flowed w).run f.bundle c) m.told.own (λ told. h) e k.comes.value a.told.own k.sound (subst (KeepsApart Cached) k.asks apart)
-          (subst (λ b. Made e b k.comes.value m.told.own a.told.own) (ap (λ (z : Site). z.core) st.site_is ∙ place_is) k.comes.made) (subst (λ ops. Sees world ops) own_is so)
+          board_left world board Cached are_own c.plain.site (entered (flowed w).run f.bundle c) m.told.own
+          (λ told. h) e k.comes.value a.told.own k.sound (subst (KeepsApart Cached) k.asks apart)
+          (subst (λ b. Made e b k.comes.value m.told.own a.told.own) (ap (λ (z : Site). z.core) st.site_is ∙ place_is)
+          k.comes.made) (subst (λ ops. Sees world ops) own_is so)
 
   pub carries_board : Carries n core x values (KeepsApart Cached) IsBoardWord BoardBeside TrueSoFar
-  carries_board = record { flows = λ f g. refl; begins = λ r m h. h; before = true_still; behind = board_behind }
+  carries_board = record { flows = λ f g. refl; begins = λ r m h. h; before = true_still; behind = board_after }

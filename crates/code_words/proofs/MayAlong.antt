@@ -30,7 +30,7 @@ use Rattle.code_core.specs.Goes.{by_stack, pending_value, loads_from, Stands}
 use Rattle.code_core.specs.Held.{HoldsPorts}
 use Rattle.code_core.specs.Sound.{IsSound, AreSound, bundles_in}
 use Rattle.code_core.proofs.Beginning.{first, walk}
-use Rattle.code_core.proofs.Landing.{landed_pending, StartsBehind}
+use Rattle.code_core.proofs.Landing.{landed_pending, StartsAfter}
 use Rattle.code_words.specs.Own.{AreOwn, KeepsApart, AllPass, AllApart}
 use Rattle.code_words.specs.May.{AllReach, MadeWell, MayReach, MayStart}
 use Rattle.code_core.proofs.Settled.{OfBoth, settled_by, all_settles_by}
@@ -45,13 +45,16 @@ use Rattle.code_words.proofs.Saying.{OfLoad}
 -- ---- flows that take effect
 
 module _ (Loads Stores To : ℕ → Type 0) where
-  gone_well : (to : Goal) (c : Core) (ops : List Operation) → MadeWell Loads Stores To c ops → MadeWell Loads Stores To (model.gone to c) ops
+  gone_well : (to : Goal) (c : Core) (ops : List Operation) → MadeWell Loads Stores To c ops
+      → MadeWell Loads Stores To (model.gone to c) ops
   gone_well (goal.Within offset) c ops h = h
   gone_well _ c ops h = h
 
-  landed_well : (u : ℕ) (c : Core) (ops : List Operation) → MadeWell Loads Stores To c ops → MadeWell Loads Stores To (landed u c) ops
+  landed_well : (u : ℕ) (c : Core) (ops : List Operation) → MadeWell Loads Stores To c ops
+      → MadeWell Loads Stores To (landed u c) ops
   landed_well u c ops h =
-      landed_kept (λ d. MadeWell Loads Stores To d ops) (record { stops = λ d fault cycle k. k; goes = λ d goal k placed. gone_well goal d ops k }) u c h
+      landed_kept (λ d. MadeWell Loads Stores To d ops)
+      (record { stops = λ d fault cycle k. k; goes = λ d goal k placed. gone_well goal d ops k }) u c h
 
 -- nothing is said of what loads give
 abbrev Nothing_said : Option Cell → Memory → ℕ → Type 0
@@ -68,7 +71,8 @@ silent (effect.Load space width rd address) m value = by space
 silent (effect.Store space width address v) m value = tt
 silent (effect.StackOp func count) m value = tt
 
-module _ (Loads Stores To : ℕ → Type 0) (n core : ℕ) (x : Core) (values : List ℕ) (Cached : ℕ → Type 0) (are_own : AreOwn Cached) (board : ℕ) (place_is : x.plain.site.core ≡ board) where
+module _ (Loads Stores To : ℕ → Type 0) (n core : ℕ) (x : Core) (values : List ℕ) (Cached : ℕ → Type 0)
+    (are_own : AreOwn Cached) (board : ℕ) (place_is : x.plain.site.core ≡ board) where
   -- what was made and asked for so far may be
   abbrev pub WellBeside : Run → Moment → Type 0
   WellBeside r m = MadeWell Loads Stores To (core_in m) m.told.own
@@ -76,13 +80,19 @@ module _ (Loads Stores To : ℕ → Type 0) (n core : ℕ) (x : Core) (values : 
   abbrev pub PassesWell : Effect → Type 0
   PassesWell e = KeepsApart Cached e × MayReach Loads Stores To board e
 
-  well_behind : (w : Walk) (b : Slots) (m : Moment) → Stands n core x values w m → (f : Fetches x.plain.site.image b (flowed w))
-      → IsSound x.plain.site (effect_of f.bundle (flowed w).run.regs) (pointers_of (flowed w).run) (flowed w).run.memory → PassesWell (effect_of f.bundle (flowed w).run.regs)
+  well_after : (w : Walk) (b : Slots) (m : Moment) → Stands n core x values w m
+      → (f : Fetches x.plain.site.image b (flowed w))
+      → IsSound x.plain.site (effect_of f.bundle (flowed w).run.regs) (pointers_of (flowed w).run) (flowed w).run.memory
+      → PassesWell (effect_of f.bundle (flowed w).run.regs)
       → WellBeside (flowed w).run m → Ever (next n core m)
-      → Behind n core x values PassesWell Nothing_said WellBeside Ever (effect_of f.bundle (flowed w).run.regs) (flowed w).run (late by_stack f.bundle (flowed w).run) m
-  well_behind w b m st f sound passes h so = record {
-    beside = all_settles_by n core P o (landing a) (settled_by (landed_well Loads Stores To a.cycle (core_in a) a.told.own there) (landed_pending a.cycle (core_in a) (inl k.moved)).rests);
-    says = silent (effect_of f.bundle (flowed w).run.regs) (flowed w).run.memory (pending_value (core_in (next n core m)).plain.regs.pending);
+      → Behind n core x values PassesWell Nothing_said WellBeside Ever (effect_of f.bundle (flowed w).run.regs)
+      (flowed w).run (late by_stack f.bundle (flowed w).run) m
+  well_after w b m st f sound passes h so = record {
+    beside = all_settles_by n core P o (landing a)
+        (settled_by (landed_well Loads Stores To a.cycle (core_in a) a.told.own there)
+        (landed_pending a.cycle (core_in a) (inl k.moved)).rests);
+    says = silent (effect_of f.bundle (flowed w).run.regs) (flowed w).run.memory
+        (pending_value (core_in (next n core m)).plain.regs.pending);
   }
     where
       k : Doing n core x values w f.bundle f.words m
@@ -111,37 +121,51 @@ module _ (Loads Stores To : ℕ → Type 0) (n core : ℕ) (x : Core) (values : 
 
       there : P (core_in a) a.told.own
       there = (
-        made_well Loads Stores To board m.told.own h.0 Cached are_own e k.comes.value a.told.own (subst (KeepsApart Cached) k.asks passes.0) reaches
-            (subst (λ b. Made e b k.comes.value m.told.own a.told.own) (ap (λ (z : Site). z.core) st.site_is ∙ place_is) k.comes.made),
-        subst (Each (MayStart Loads Stores To)) (sym k.comes.is_like.sendings) (sent_well Loads Stores To board d h.1 e reaches),
+        made_well Loads Stores To board m.told.own h.0 Cached are_own e k.comes.value a.told.own
+            (subst (KeepsApart Cached) k.asks passes.0) reaches
+            (subst (λ b. Made e b k.comes.value m.told.own a.told.own) (ap (λ (z : Site). z.core) st.site_is
+            ∙ place_is) k.comes.made),
+        subst (Each (MayStart Loads Stores To)) (sym k.comes.is_like.sendings)
+            (sent_well Loads Stores To board d h.1 e reaches),
       )
 
   pub carries_well : Carries n core x values PassesWell Nothing_said WellBeside Ever
-  carries_well = record { flows = λ f g. refl; begins = λ r m h. h; before = λ count m so. tt; behind = well_behind }
+  carries_well = record { flows = λ f g. refl; begins = λ r m h. h; before = λ count m so. tt; behind = well_after }
 
 -- ---- from the beginning
 
-both_pass : (A B : Effect → Type 0) (from : Sources) (steps : List Step) (m : Run) → AllPass A from steps m → AllPass B from steps m → AllPass (λ e. A e × B e) from steps m
+both_pass : (A B : Effect → Type 0) (from : Sources) (steps : List Step) (m : Run) → AllPass A from steps m
+    → AllPass B from steps m → AllPass (λ e. A e × B e) from steps m
 both_pass A B from [] m a b = tt
 both_pass A B from (does s ∷ steps) m a b = ((a.0, b.0), both_pass A B from steps (late from s m) a.1 b.1)
 both_pass A B from (begins ∷ steps) m a b = both_pass A B from steps (run.begun m) a b
 
 module _ (Loads Stores To : ℕ → Type 0) (n core : ℕ) (site : Site) (input values : List ℕ) where
-  pub well_as : (Cached : ℕ → Type 0) → AreOwn Cached → (steps : List Step) (ds : List (Option Goal)) (memory : Memory) (backs : List Back) (e : Walk) (offset : ℕ) → HoldsPorts memory (begun site input).plain.interface
-      → IsSlotted site → StartsBehind site.image
-      → Does site.image by_stack steps ds (walk n core site input values memory (loads_from n core (bundles_in steps) (first n core site input values)) backs) e
-      → AreSound site by_stack steps (at_begin memory (loads_from n core (bundles_in steps) (first n core site input values)) backs)
-      → AllApart Cached by_stack steps (at_begin memory (loads_from n core (bundles_in steps) (first n core site input values)) backs)
-      → AllReach Loads Stores To site.core by_stack steps (at_begin memory (loads_from n core (bundles_in steps) (first n core site input values)) backs)
+  pub well_as : (Cached : ℕ → Type 0) → AreOwn Cached → (steps : List Step) (ds : List (Option Goal)) (memory : Memory)
+      (backs : List Back) (e : Walk) (offset : ℕ) → HoldsPorts memory (begun site input).plain.interface
+      → IsSlotted site → StartsAfter site.image
+      → Does site.image by_stack steps ds (walk n core site input values memory (loads_from n core (bundles_in steps)
+      (first n core site input values)) backs) e
+      → AreSound site by_stack steps (at_begin memory (loads_from n core (bundles_in steps)
+      (first n core site input values)) backs)
+      → AllApart Cached by_stack steps (at_begin memory (loads_from n core (bundles_in steps)
+      (first n core site input values)) backs)
+      → AllReach Loads Stores To site.core by_stack steps (at_begin memory (loads_from n core (bundles_in steps)
+      (first n core site input values)) backs)
       → due e.flow ≡ Some (goal.Return 0 offset)
-      → MadeWell Loads Stores To (core_in (after_bundles n core (begun site input) values (bundles_in steps))) (after_bundles n core (begun site input) values (bundles_in steps)).told.own
+      → MadeWell Loads Stores To (core_in (after_bundles n core (begun site input) values (bundles_in steps)))
+      (after_bundles n core (begun site input) values (bundles_in steps)).told.own
   well_as Cached are_own steps ds memory backs e offset ports slots starts h sound apart reach last =
       let x : Core = begun site input in
       let m : Run = at_begin memory (loads_from n core (bundles_in steps) (first n core site input values)) backs in
-      let well : MadeWell Loads Stores To (core_in (first n core site input values)) (first n core site input values).told.own =
+      let well : MadeWell Loads Stores To (core_in (first n core site input values))
+      (first n core site input values).told.own =
       holds_first n core site input values (MadeWell Loads Stores To) (well_of_both Loads Stores To) (tt, tt) in
-      let c : CarriedTo n core site input values (PassesWell Loads Stores To n core x values Cached are_own site.core refl) Nothing_said (WellBeside Loads Stores To n core x values Cached are_own site.core refl) Ever steps m e =
-      carried_to n core site input values (PassesWell Loads Stores To n core x values Cached are_own site.core refl) Nothing_said (WellBeside Loads Stores To n core x values Cached are_own site.core refl) Ever
-      (carries_well Loads Stores To n core x values Cached are_own site.core refl) steps ds memory backs e offset ports slots starts h sound
+      let c : CarriedTo n core site input values (PassesWell Loads Stores To n core x values Cached are_own site.core
+      refl) Nothing_said (WellBeside Loads Stores To n core x values Cached are_own site.core refl) Ever steps m e =
+      carried_to n core site input values (PassesWell Loads Stores To n core x values Cached are_own site.core refl)
+      Nothing_said (WellBeside Loads Stores To n core x values Cached are_own site.core refl) Ever
+      (carries_well Loads Stores To n core x values Cached are_own site.core refl) steps ds memory backs e offset ports
+      slots starts h sound
       (both_pass (KeepsApart Cached) (MayReach Loads Stores To site.core) by_stack steps m apart reach) last well tt in
       c.beside

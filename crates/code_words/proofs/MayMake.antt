@@ -24,16 +24,24 @@ use Rattle.code_words.proofs.OwnWords.{line_cell}
 module _ (Loads Stores To : ℕ → Type 0) where
   pub well_of_both : OfBoth (MadeWell Loads Stores To)
   well_of_both = record {
-    same = λ c d ops is h. (h.0, subst (Each (MayStart Loads Stores To)) (sym (ap (λ (z : Core). z.seen.sendings) is.task)) h.1);
+    same = λ c d ops is h. (
+      h.0,
+      subst (Each (MayStart Loads Stores To))
+          (sym (ap (λ (z : Core). z.seen.sendings) is.task)) h.1,
+    );
     counts = λ u c ops h. h;
   }
 
   -- one load or store more
-  loads_one : (s word value : ℕ) (ops : List Operation) → Loads word → Each (MayMake Loads Stores To) ops → Each (MayMake Loads Stores To) (ops ++ load s word value ∷ [])
-  loads_one s word value ops may h = each-append (MayMake Loads Stores To) ops (load s word value ∷ []) h (((λ e. may), (λ e. absurd (true≢false (sym e)))), tt)
+  loads_one : (s word value : ℕ) (ops : List Operation) → Loads word → Each (MayMake Loads Stores To) ops
+      → Each (MayMake Loads Stores To) (ops ++ load s word value ∷ [])
+  loads_one s word value ops may h = each-append (MayMake Loads Stores To) ops (load s word value ∷ []) h
+      (((λ e. may), (λ e. absurd (true≢false (sym e)))), tt)
 
-  stores_one : (s word value : ℕ) (ops : List Operation) → Stores word → Each (MayMake Loads Stores To) ops → Each (MayMake Loads Stores To) (ops ++ store s word value ∷ [])
-  stores_one s word value ops may h = each-append (MayMake Loads Stores To) ops (store s word value ∷ []) h (((λ e. absurd (true≢false e)), (λ e. may)), tt)
+  stores_one : (s word value : ℕ) (ops : List Operation) → Stores word → Each (MayMake Loads Stores To) ops
+      → Each (MayMake Loads Stores To) (ops ++ store s word value ∷ [])
+  stores_one s word value ops may h = each-append (MayMake Loads Stores To) ops (store s word value ∷ []) h
+      (((λ e. absurd (true≢false e)), (λ e. may)), tt)
 
   module _ (board : ℕ) (before : List Operation) (h : Each (MayMake Loads Stores To) before) where
     abbrev Well : List Operation → Type 0
@@ -42,23 +50,36 @@ module _ (Loads Stores To : ℕ → Type 0) where
     still : (ops : List Operation) → ops ≡ before → Well ops
     still ops same = subst Well (sym same) h
 
-    loaded : (value : ℕ) (ops : List Operation) (place : Option Cell) → MayLoadCell Loads Stores To board place → MadeLoad place board value before ops → Well ops
-    loaded value ops (Some (cell.Comm word)) may made = subst Well (sym made.1) (loads_one made.0 (comm_word board word) value before may h)
-    loaded value ops (Some (cell.Shared word)) may made = subst Well (sym made.1) (loads_one made.0 word value before may h)
+    loaded : (value : ℕ) (ops : List Operation) (place : Option Cell) → MayLoadCell Loads Stores To board place
+        → MadeLoad place board value before ops → Well ops
+    loaded value ops (Some (cell.Comm word)) may made =
+        subst Well (sym made.1) (loads_one made.0 (comm_word board word) value before may h)
+    loaded value ops (Some (cell.Shared word)) may made =
+        subst Well (sym made.1) (loads_one made.0 word value before may h)
     loaded value ops _ may made = still ops made
 
-    stored : (value : ℕ) (ops : List Operation) (place : Option Cell) → MayStoreCell Loads Stores To board place → MadeStore place board value before ops → Well ops
-    stored value ops (Some (cell.Comm word)) may made = subst Well (sym made.1) (stores_one made.0 (comm_word board word) value before may h)
-    stored value ops (Some (cell.Shared word)) may made = subst Well (sym made.1) (stores_one made.0 word value before may h)
+    stored : (value : ℕ) (ops : List Operation) (place : Option Cell) → MayStoreCell Loads Stores To board place
+        → MadeStore place board value before ops → Well ops
+    stored value ops (Some (cell.Comm word)) may made =
+        subst Well (sym made.1) (stores_one made.0 (comm_word board word) value before may h)
+    stored value ops (Some (cell.Shared word)) may made =
+        subst Well (sym made.1) (stores_one made.0 word value before may h)
     stored value ops _ may made = still ops made
 
-    pub made_well : (Cached : ℕ → Type 0) → AreOwn Cached → (e : Effect) (value : ℕ) (ops : List Operation) → KeepsApart Cached e → MayReach Loads Stores To board e → Made e board value before ops → Well ops
-    made_well Cached are_own (effect.Load mem.L width rd address) value ops a may made = loaded value ops (cell_of Local address) may made
-    made_well Cached are_own (effect.Load mem.C width rd address) value ops a may made = still ops (subst (λ place. MadeLine place before ops) (line_cell address (are_own address a)) made)
-    made_well Cached are_own (effect.Load mem.M width rd address) value ops a may made = loaded value ops (cell_of Main address) may made
-    made_well Cached are_own (effect.Store mem.L width address v) value ops a may made = stored v ops (cell_of Local address) may made
-    made_well Cached are_own (effect.Store mem.C width address v) value ops a may made = stored v ops (cell_of Main address) may made
-    made_well Cached are_own (effect.Store mem.M width address v) value ops a may made = stored v ops (cell_of Main address) may made
+    pub made_well : (Cached : ℕ → Type 0) → AreOwn Cached → (e : Effect) (value : ℕ) (ops : List Operation)
+        → KeepsApart Cached e → MayReach Loads Stores To board e → Made e board value before ops → Well ops
+    made_well Cached are_own (effect.Load mem.L width rd address) value ops a may made =
+        loaded value ops (cell_of Local address) may made
+    made_well Cached are_own (effect.Load mem.C width rd address) value ops a may made =
+        still ops (subst (λ place. MadeLine place before ops) (line_cell address (are_own address a)) made)
+    made_well Cached are_own (effect.Load mem.M width rd address) value ops a may made =
+        loaded value ops (cell_of Main address) may made
+    made_well Cached are_own (effect.Store mem.L width address v) value ops a may made =
+        stored v ops (cell_of Local address) may made
+    made_well Cached are_own (effect.Store mem.C width address v) value ops a may made =
+        stored v ops (cell_of Main address) may made
+    made_well Cached are_own (effect.Store mem.M width address v) value ops a may made =
+        stored v ops (cell_of Main address) may made
     made_well Cached are_own _ value ops a may made = still ops made
 
   -- the transfers that it asks for
@@ -66,7 +87,8 @@ module _ (Loads Stores To : ℕ → Type 0) where
     abbrev Sent : Core → Type 0
     Sent c = Each (MayStart Loads Stores To) c.seen.sendings
 
-    port_sent : (value : ℕ) (place : Option Cell) → MayStoreCell Loads Stores To board place → Sent (port_at place value d)
+    port_sent : (value : ℕ) (place : Option Cell) → MayStoreCell Loads Stores To board place
+        → Sent (port_at place value d)
     port_sent value (Some (cell.Port target register)) may =
         port_cases (λ a b. Sent) target register value d (λ b. h) h
         (each-append (MayStart Loads Stores To) d.seen.sendings (record {

@@ -32,12 +32,18 @@ use Rattle.code_words.proofs.Saying.{IsOwnWord, OfLoad, of_pending}
 module _ (Cached : ℕ → Type 0) (k : Memory) where
   own_kept : OfTask (HoldsOwn Cached k)
   own_kept = record {
-    same = λ c d is h. subst (HoldsOwn Cached k) (sym is.task) (record { scratch = h.scratch; sent = h.sent; private = h.private; fresh = h.fresh });
+    same = λ c d is h. subst (HoldsOwn Cached k) (sym is.task) (record {
+      scratch = h.scratch;
+      sent = h.sent;
+      private = h.private;
+      fresh = h.fresh;
+    });
     counts = λ u c h. record { scratch = h.scratch; sent = h.sent; private = h.private; fresh = h.fresh };
   }
 
   gone_own : (to : Goal) (c : Core) → HoldsOwn Cached k c → HoldsOwn Cached k (model.gone to c)
-  gone_own (goal.Within offset) c h = record { scratch = h.scratch; sent = h.sent; private = h.private; fresh = h.fresh }
+  gone_own (goal.Within offset) c h =
+      record { scratch = h.scratch; sent = h.sent; private = h.private; fresh = h.fresh }
   gone_own _ c h = record { scratch = h.scratch; sent = h.sent; private = h.private; fresh = h.fresh }
 
   abbrev Kept : Core → Type 0
@@ -45,7 +51,15 @@ module _ (Cached : ℕ → Type 0) (k : Memory) where
 
   landed_own : (u : ℕ) (c : Core) → Rests c.plain.transfer → HoldsOwn Cached k c → Kept (landed u c)
   landed_own u c r h = landed_kept Kept (record {
-    stops = λ d fault cycle kept. (record { scratch = kept.0.scratch; sent = kept.0.sent; private = kept.0.private; fresh = kept.0.fresh }, kept.1);
+    stops = λ d fault cycle kept. (
+      record {
+        scratch = kept.0.scratch;
+        sent = kept.0.sent;
+        private = kept.0.private;
+        fresh = kept.0.fresh;
+      },
+      kept.1,
+    );
     goes = λ d goal kept placed. (gone_own goal d kept.0, gone_rests goal d kept.1);
   }) u c (h, r)
 
@@ -54,15 +68,23 @@ module _ (n core : ℕ) (x : Core) (values : List ℕ) (Cached : ℕ → Type 0)
   abbrev pub OwnBeside : Run → Moment → Type 0
   OwnBeside r m = HoldsOwn Cached r.memory (core_in m)
 
-  own_behind : (w : Walk) (b : Slots) (m : Moment) → Stands n core x values w m → (f : Fetches x.plain.site.image b (flowed w))
-      → IsSound x.plain.site (effect_of f.bundle (flowed w).run.regs) (pointers_of (flowed w).run) (flowed w).run.memory → KeepsApart Cached (effect_of f.bundle (flowed w).run.regs)
+  own_after : (w : Walk) (b : Slots) (m : Moment) → Stands n core x values w m
+      → (f : Fetches x.plain.site.image b (flowed w))
+      → IsSound x.plain.site (effect_of f.bundle (flowed w).run.regs) (pointers_of (flowed w).run) (flowed w).run.memory
+      → KeepsApart Cached (effect_of f.bundle (flowed w).run.regs)
       → OwnBeside (flowed w).run m → Ever (next n core m)
-      → Behind n core x values (KeepsApart Cached) IsOwnWord OwnBeside Ever (effect_of f.bundle (flowed w).run.regs) (flowed w).run (late by_stack f.bundle (flowed w).run) m
-  own_behind w b m st f sound apart h so = record {
-    beside = subst (λ (z : Run). OwnBeside z (next n core m)) (sym k.late_is) (rests_settles n core (HoldsOwn Cached r.memory) (own_kept Cached r.memory) (landing a) land.0 land.1);
-    says = subst (λ e. OfLoad IsOwnWord e (flowed w).run.memory (pending_value (core_in (next n core m)).plain.regs.pending)) (sym k.asks)
-        (of_pending IsOwnWord c.plain.site e (entered (flowed w).run f.bundle c) k.comes.value (core_in a).plain.regs (core_in (next n core m)).plain.regs d.plain.regs k.sound (next_pending n core m k.moved) k.comes.is_like.regs
-        (own_said Cached are_own c.plain.site (entered (flowed w).run f.bundle c) d k.stack held st.goes.ports e k.comes.value (core_in a).seen.cached k.sound apart_there k.comes.given k.comes.cached));
+      → Behind n core x values (KeepsApart Cached) IsOwnWord OwnBeside Ever (effect_of f.bundle (flowed w).run.regs)
+      (flowed w).run (late by_stack f.bundle (flowed w).run) m
+  own_after w b m st f sound apart h so = record {
+    beside = subst (λ (z : Run). OwnBeside z (next n core m)) (sym k.late_is)
+        (rests_settles n core (HoldsOwn Cached r.memory) (own_kept Cached r.memory) (landing a) land.0 land.1);
+    says = subst (λ e. OfLoad IsOwnWord e (flowed w).run.memory
+        (pending_value (core_in (next n core m)).plain.regs.pending)) (sym k.asks)
+        (of_pending IsOwnWord c.plain.site e (entered (flowed w).run f.bundle c) k.comes.value (core_in a).plain.regs
+        (core_in (next n core m)).plain.regs d.plain.regs k.sound (next_pending n core m k.moved)
+        k.comes.is_like.regs
+        (own_said Cached are_own c.plain.site (entered (flowed w).run f.bundle c) d k.stack held st.goes.ports e
+        k.comes.value (core_in a).seen.cached k.sound apart_there k.comes.given k.comes.cached));
   }
     where
       k : Doing n core x values w f.bundle f.words m
@@ -91,11 +113,14 @@ module _ (n core : ℕ) (x : Core) (values : List ℕ) (Cached : ℕ → Type 0)
 
       land : HoldsOwn Cached r.memory (landed a.cycle (core_in a)) × Rests (landed a.cycle (core_in a)).plain.transfer
       land = landed_own Cached r.memory a.cycle (core_in a) (inl k.moved)
-          (own_left Cached are_own c.plain.site (entered (flowed w).run f.bundle c) d k.stack held st.goes.ports e k.comes.value (core_in a) k.sound apart_there k.comes.is_like k.comes.cached)
+          (own_left Cached are_own c.plain.site (entered (flowed w).run f.bundle c) d k.stack held st.goes.ports e
+          k.comes.value (core_in a) k.sound apart_there k.comes.is_like k.comes.cached)
 
   pub carries_own : Carries n core x values (KeepsApart Cached) IsOwnWord OwnBeside Ever
-  carries_own = record { flows = λ f g. refl; begins = λ r m h. h; before = λ count m so. tt; behind = own_behind }
+  carries_own = record { flows = λ f g. refl; begins = λ r m h. h; before = λ count m so. tt; behind = own_after }
 
-pub own_first : (n core : ℕ) (site : Site) (input values : List ℕ) (Cached : ℕ → Type 0) (memory : Memory) → HoldsOwn Cached memory (begun site input) → HoldsOwn Cached memory (core_in (first n core site input values))
+pub own_first : (n core : ℕ) (site : Site) (input values : List ℕ) (Cached : ℕ → Type 0) (memory : Memory)
+    → HoldsOwn Cached memory (begun site input) → HoldsOwn Cached memory (core_in (first n core site input values))
 own_first n core site input values Cached memory h =
-    holds_first n core site input values (λ c ops. HoldsOwn Cached memory c) (of_task (HoldsOwn Cached memory) (own_kept Cached memory)) h
+    holds_first n core site input values (λ c ops. HoldsOwn Cached memory c) (of_task (HoldsOwn Cached memory)
+    (own_kept Cached memory)) h

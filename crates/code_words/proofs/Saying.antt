@@ -41,25 +41,36 @@ module _ (Says : Option Cell → Memory → ℕ → Type 0) where
   -- of all loads of a trail
   abbrev pub OfLoads : Sources → List Step → Run → Type 0
   OfLoads from [] m = Unit {0}
-  OfLoads from (does b ∷ steps) m = OfLoad (effect_of b m.regs) m.memory (first_load m.loads) × OfLoads from steps (late from b m)
+  OfLoads from (does b ∷ steps) m =
+      OfLoad (effect_of b m.regs) m.memory (first_load m.loads) × OfLoads from steps (late from b m)
   OfLoads from (begins ∷ steps) m = OfLoads from steps (begun m)
 
-  of_word : (width : Width) (rd address value : ℕ) (place : Option Cell) (m : Memory) (regs regs' old : Registers) → width ≡ load.Word → regs'.pending ≡ regs.pending → regs ≡ arrived rd (picked width address value) old
+  of_word : (width : Width) (rd address value : ℕ) (place : Option Cell) (m : Memory) (regs regs' old : Registers)
+      → width ≡ load.Word → regs'.pending ≡ regs.pending → regs ≡ arrived rd (picked width address value) old
       → Says place m value → Says place m (pending_value regs'.pending)
   of_word width rd address value place m regs regs' old is same came said =
-      subst (Says place m) (sym (ap pending_value same ∙ ap (λ (r : Registers). pending_value r.pending) came ∙ ap (λ w. picked w address value) is)) said
+      subst (Says place m) (sym (ap pending_value same ∙ ap (λ (r : Registers). pending_value r.pending) came
+      ∙ ap (λ w. picked w address value) is)) said
 
   -- what is said of the value that came is said of the one that is pending
-  pub of_pending : (site : Site) (e : Effect) (r : Run) (value : ℕ) (regs regs' old : Registers) → IsSound site e (pointers_of r) r.memory → regs'.pending ≡ regs.pending → regs ≡ regs_with e value old
+  pub of_pending : (site : Site) (e : Effect) (r : Run) (value : ℕ) (regs regs' old : Registers)
+      → IsSound site e (pointers_of r) r.memory → regs'.pending ≡ regs.pending → regs ≡ regs_with e value old
       → OfLoad e r.memory value → OfLoad e r.memory (pending_value regs'.pending)
-  of_pending site (effect.Load mem.L width rd address) r value regs regs' old s same came said = of_word width rd address value (cell_of mem.L address) r.memory regs regs' old s.0 same came said
-  of_pending site (effect.Load mem.C width rd address) r value regs regs' old s same came said = of_word width rd address value (cell_of mem.C address) r.memory regs regs' old s.0 same came said
-  of_pending site (effect.Load mem.M width rd address) r value regs regs' old s same came said = of_word width rd address value (cell_of mem.M address) r.memory regs regs' old s.0 same came said
+  of_pending site (effect.Load mem.L width rd address) r value regs regs' old s same came said =
+      of_word width rd address value (cell_of mem.L address) r.memory regs regs' old s.0 same came said
+  of_pending site (effect.Load mem.C width rd address) r value regs regs' old s same came said =
+      of_word width rd address value (cell_of mem.C address) r.memory regs regs' old s.0 same came said
+  of_pending site (effect.Load mem.M width rd address) r value regs regs' old s same came said =
+      of_word width rd address value (cell_of mem.M address) r.memory regs regs' old s.0 same came said
   of_pending site _ r value regs regs' old s same came said = tt
 
   -- and of the first of the list
-  pub of_first : (e : Effect) (m : Memory) (regs : Registers) (loads rest : List ℕ) → loads ≡ given_by e regs ++ rest → OfLoad e m (pending_value regs.pending) → OfLoad e m (first_load loads)
-  of_first (effect.Load mem.L width rd address) m regs loads rest is said = subst (Says (cell_of mem.L address) m) (sym (ap first_load is)) said
-  of_first (effect.Load mem.C width rd address) m regs loads rest is said = subst (Says (cell_of mem.C address) m) (sym (ap first_load is)) said
-  of_first (effect.Load mem.M width rd address) m regs loads rest is said = subst (Says (cell_of mem.M address) m) (sym (ap first_load is)) said
+  pub of_first : (e : Effect) (m : Memory) (regs : Registers) (loads rest : List ℕ) → loads ≡ given_by e regs ++ rest
+      → OfLoad e m (pending_value regs.pending) → OfLoad e m (first_load loads)
+  of_first (effect.Load mem.L width rd address) m regs loads rest is said =
+      subst (Says (cell_of mem.L address) m) (sym (ap first_load is)) said
+  of_first (effect.Load mem.C width rd address) m regs loads rest is said =
+      subst (Says (cell_of mem.C address) m) (sym (ap first_load is)) said
+  of_first (effect.Load mem.M width rd address) m regs loads rest is said =
+      subst (Says (cell_of mem.M address) m) (sym (ap first_load is)) said
   of_first _ m regs loads rest is said = tt

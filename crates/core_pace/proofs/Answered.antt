@@ -44,21 +44,27 @@ use Rattle.core_pace.proofs.Parts.{leaves_map}
 
 -- ---- the addresses of cached loads
 
-pub loads_after_load : (accesses : List cache.Access) (address : ℕ) (missed : Option (List ℕ)) → addresses (reverse (accesses ++ cache.Load address missed ∷ [])) ≡ address ∷ addresses (reverse accesses)
+pub loads_after_load : (accesses : List cache.Access) (address : ℕ) (missed : Option (List ℕ))
+    → addresses (reverse (accesses ++ cache.Load address missed ∷ [])) ≡ address ∷ addresses (reverse accesses)
 loads_after_load accesses address missed = ap addresses (reverse-append accesses (cache.Load address missed ∷ []))
 
-loads_after_store : (accesses : List cache.Access) (address value : ℕ) → addresses (reverse (accesses ++ cache.Store address value ∷ [])) ≡ addresses (reverse accesses)
+loads_after_store : (accesses : List cache.Access) (address value : ℕ)
+    → addresses (reverse (accesses ++ cache.Store address value ∷ [])) ≡ addresses (reverse accesses)
 loads_after_store accesses address value = ap addresses (reverse-append accesses (cache.Store address value ∷ []))
 
 -- whether a word is present depends on them alone
-pub present_by_loads : (address : ℕ) (latest : List cache.Access) → cache.is_present address latest ≡ is_loaded address (addresses latest)
+pub present_by_loads : (address : ℕ) (latest : List cache.Access) → cache.is_present address latest
+    ≡ is_loaded address (addresses latest)
 present_by_loads address [] = refl
 present_by_loads address (cache.Load other missed ∷ before) =
-    ap (λ b. if cache.index_of other == cache.index_of address then cache.line_of other == cache.line_of address else b) (present_by_loads address before)
+    ap (λ b. if cache.index_of other == cache.index_of address then cache.line_of other == cache.line_of address else b)
+    (present_by_loads address before)
 present_by_loads address (cache.Store other value ∷ before) = present_by_loads address before
 
-pub word_by_loads : (accesses : List cache.Access) (address : ℕ) → is_some (cache.cached_word accesses address) ≡ is_loaded address (addresses (reverse accesses))
-word_by_loads accesses address = by (cache.is_present address (reverse accesses)) ∙ present_by_loads address (reverse accesses)
+pub word_by_loads : (accesses : List cache.Access) (address : ℕ) → is_some (cache.cached_word accesses address)
+    ≡ is_loaded address (addresses (reverse accesses))
+word_by_loads accesses address =
+    by (cache.is_present address (reverse accesses)) ∙ present_by_loads address (reverse accesses)
   where
     by : (b : Bool) → is_some (if b then Some (cache.last_word address (reverse accesses)) else None) ≡ b
     by true = refl
@@ -68,7 +74,8 @@ word_by_loads accesses address = by (cache.is_present address (reverse accesses)
 
 -- The core has this site, status, flow and pace, and where the premise holds, what it has to move leaves no store
 -- pending.
-pub record LeavesAs (Few : Type 0) (site : Site) (status : Status) (flow : Option Flow) (p : Pace) (y : Acted) : Type 0 where
+pub record LeavesAs (Few : Type 0) (site : Site) (status : Status) (flow : Option Flow) (p : Pace)
+    (y : Acted) : Type 0 where
   pub site_is : y.core.plain.site ≡ site
   pub status_is : y.core.plain.status ≡ status
   pub flow_is : y.core.plain.flow ≡ flow
@@ -81,11 +88,18 @@ LeavesOf Few c p y = LeavesAs Few c.plain.site c.plain.status c.plain.flow p y
 
 -- another core that is left with this one's site, status and flow
 refit : (Few : Type 0) (c : Core) (p q : Pace) (y : Acted) → p ≡ q → LeavesOf Few c p y → LeavesOf Few c q y
-refit Few c p q y e h = record { site_is = h.site_is; status_is = h.status_is; flow_is = h.flow_is; pace = h.pace ∙ e; pending = h.pending }
+refit Few c p q y e h = record {
+  site_is = h.site_is;
+  status_is = h.status_is;
+  flow_is = h.flow_is;
+  pace = h.pace ∙ e;
+  pending = h.pending;
+}
 
 -- ---- cells
 
-pub leaves_reading : (P : Acted → Type 0) (place : Option Cell) (x : Plain) (go_on : ℕ → Prog Acted) → ((word : ℕ) → Leaves P (go_on word)) → Leaves P (reading place x go_on)
+pub leaves_reading : (P : Acted → Type 0) (place : Option Cell) (x : Plain) (go_on : ℕ → Prog Acted)
+    → ((word : ℕ) → Leaves P (go_on word)) → Leaves P (reading place x go_on)
 leaves_reading P None x go_on h = h 0
 leaves_reading P (Some (cell.Scratch word)) x go_on h = h (x.scratch word)
 leaves_reading P (Some (cell.Private word)) x go_on h = h (x.private word)
@@ -93,7 +107,8 @@ leaves_reading P (Some (cell.Comm word)) x go_on h = λ value. h value
 leaves_reading P (Some (cell.Shared word)) x go_on h = λ value. h value
 leaves_reading P (Some (cell.Port core register)) x go_on h = h (port_to x.interface core).channel.left
 
-pub leaves_reading_line : (P : Acted → Type 0) (place : Option Cell) (x : Plain) (go_on : List ℕ → Prog Acted) → ((words : List ℕ) → Leaves P (go_on words)) → Leaves P (reading_line place x go_on)
+pub leaves_reading_line : (P : Acted → Type 0) (place : Option Cell) (x : Plain) (go_on : List ℕ → Prog Acted)
+    → ((words : List ℕ) → Leaves P (go_on words)) → Leaves P (reading_line place x go_on)
 leaves_reading_line P None x go_on h = h no_line
 leaves_reading_line P (Some (cell.Scratch word)) x go_on h = h no_line
 leaves_reading_line P (Some (cell.Private word)) x go_on h = h _
@@ -106,7 +121,8 @@ module _ (Few : Type 0) where
   as_it_is : (c : Core) → LeavesOf Few c (pace_of c) (record { core = c; pending_store = None })
   as_it_is c = record { site_is = refl; status_is = refl; flow_is = refl; pace = refl; pending = λ few some. refl }
 
-  leaves_storing : (word : ℕ) (width : StoreWidth) (address value : ℕ) (c : Core) → (Few → c.plain.transfer.words ≡ 0) → Leaves (LeavesOf Few c (pace_of c)) (storing word width address value c)
+  leaves_storing : (word : ℕ) (width : StoreWidth) (address value : ℕ) (c : Core) → (Few → c.plain.transfer.words ≡ 0)
+      → Leaves (LeavesOf Few c (pace_of c)) (storing word width address value c)
   leaves_storing word store.Word address value c few = as_it_is c
   leaves_storing word store.Half address value c few = λ old. record {
     site_is = refl;
@@ -124,17 +140,22 @@ module _ (Few : Type 0) where
   }
 
   -- the registers of the interface are none of the pace
-  leaves_port : (target register value : ℕ) (c : Core) → LeavesOf Few c (pace_of c) (record { core = port_set target register value c; pending_store = None })
+  leaves_port : (target register value : ℕ) (c : Core)
+      → LeavesOf Few c (pace_of c) (record { core = port_set target register value c; pending_store = None })
   leaves_port target register value c =
-      port_cases (λ b e d. LeavesOf Few c (pace_of c) (record { core = d; pending_store = None })) target register value c
+      port_cases (λ b e d. LeavesOf Few c (pace_of c) (record { core = d; pending_store = None })) target
+      register value c
       (λ e. record { site_is = refl; status_is = refl; flow_is = refl; pace = refl; pending = λ few some. refl })
       (record { site_is = refl; status_is = refl; flow_is = refl; pace = refl; pending = λ few some. refl })
       (record { site_is = refl; status_is = refl; flow_is = refl; pace = refl; pending = λ few some. refl })
 
-  leaves_writing : (place : Option Cell) (width : StoreWidth) (address value : ℕ) (c : Core) → (Few → c.plain.transfer.words ≡ 0) → Leaves (LeavesOf Few c (pace_of c)) (writing place width address value c)
+  leaves_writing : (place : Option Cell) (width : StoreWidth) (address value : ℕ) (c : Core)
+      → (Few → c.plain.transfer.words ≡ 0) → Leaves (LeavesOf Few c (pace_of c)) (writing place width address value c)
   leaves_writing None width address value c few = as_it_is c
-  leaves_writing (Some (cell.Scratch word)) width address value c few = record { site_is = refl; status_is = refl; flow_is = refl; pace = refl; pending = λ is some. refl }
-  leaves_writing (Some (cell.Private word)) width address value c few = record { site_is = refl; status_is = refl; flow_is = refl; pace = refl; pending = λ is some. refl }
+  leaves_writing (Some (cell.Scratch word)) width address value c few =
+      record { site_is = refl; status_is = refl; flow_is = refl; pace = refl; pending = λ is some. refl }
+  leaves_writing (Some (cell.Private word)) width address value c few =
+      record { site_is = refl; status_is = refl; flow_is = refl; pace = refl; pending = λ is some. refl }
   leaves_writing (Some (cell.Comm word)) width address value c few = leaves_storing _ width address value c few
   leaves_writing (Some (cell.Shared word)) width address value c few = leaves_storing word width address value c few
   leaves_writing (Some (cell.Port target register)) width address value c few = leaves_port target register value c
@@ -143,29 +164,48 @@ module _ (Few : Type 0) where
 
   -- so many words to move, or the end of the bundle
   leaves_moves : (c : Core) (write : Bool) (words : ℕ) → LeavesOf Few c (asks write words (pace_of c))
-      (record { core = with_plain (moves (record { write = write; words = words; then = then_on.Nothing }) c.plain.free) c; pending_store = None })
+      (record {
+        core = with_plain (moves (record { write = write; words = words; then = then_on.Nothing }) c.plain.free)
+            c;
+        pending_store = None;
+      })
   leaves_moves c write words = by (words == 0)
     where
       by : (b : Bool) → LeavesOf Few c
-          (elim b as (λ _. Pace) [ true ↦ record (pace_of c) { free = c.plain.free + 1 } | false ↦ record (pace_of c) { write = write; words = words; line = None } ])
+          (elim b as (λ _. Pace) [
+            | true ↦ record (pace_of c) { free = c.plain.free + 1 }
+            | false ↦ record (pace_of c) {
+              write = write;
+              words = words;
+              line = None;
+            }
+          ])
           (record {
-            core = with_plain (λ x. elim b as (λ _. Plain) [ true ↦ ends c.plain.free x | false ↦ record x { transfer = record { write = write; words = words; then = then_on.Nothing } } ]) c;
+            core = with_plain (λ x. elim b as (λ _. Plain) [
+              | true ↦ ends c.plain.free x
+              | false ↦
+                  record x { transfer = record { write = write; words = words; then = then_on.Nothing } }
+            ]) c;
             pending_store = None;
           })
       by true = record { site_is = refl; status_is = refl; flow_is = refl; pace = refl; pending = λ few some. refl }
       by false = record { site_is = refl; status_is = refl; flow_is = refl; pace = refl; pending = λ few some. refl }
 
-  held_reserved : (count : ℕ) (s : Stack) → length (reserved count s).words ≡ min STACK_CACHE_WORDS (count + length s.words)
+  held_reserved : (count : ℕ) (s : Stack) → length (reserved count s).words
+      ≡ min STACK_CACHE_WORDS (count + length s.words)
   held_reserved count s =
       length-take STACK_CACHE_WORDS (grown count s)
-      ∙ ap (min STACK_CACHE_WORDS) (length-append (replicate count 0) s.words ∙ ap (λ n. n + length s.words) (length-replicate count 0))
+      ∙ ap (min STACK_CACHE_WORDS) (length-append (replicate count 0) s.words
+      ∙ ap (λ n. n + length s.words) (length-replicate count 0))
 
   words_spilled : (count : ℕ) (s : Stack) → length (spilled count s) ≡ count + length s.words - STACK_CACHE_WORDS
   words_spilled count s =
       length-drop STACK_CACHE_WORDS (grown count s)
-      ∙ ap (λ n. n - STACK_CACHE_WORDS) (length-append (replicate count 0) s.words ∙ ap (λ n. n + length s.words) (length-replicate count 0))
+      ∙ ap (λ n. n - STACK_CACHE_WORDS) (length-append (replicate count 0) s.words
+      ∙ ap (λ n. n + length s.words) (length-replicate count 0))
 
-  held_refilled : (count : ℕ) (memory : ℕ → ℕ) (s : Stack) → length (refilled count memory s).words ≡ length s.words + (count - length s.words)
+  held_refilled : (count : ℕ) (memory : ℕ → ℕ) (s : Stack) → length (refilled count memory s).words ≡ length s.words
+      + (count - length s.words)
   held_refilled count memory s =
       length-append s.words (words_from memory s.ss (missing count s))
       ∙ ap (λ n. length s.words + n) (length-map-range_with_len memory s.ss (missing count s))
@@ -178,13 +218,16 @@ module _ (Few : Type 0) where
         private = with_words (reserved count x.stack).ss (spilled count x.stack) x.private;
       }) c in
       let same : asks true (length (spilled count c.plain.stack)) (pace_of d) ≡ asks_stack Sres count (pace_of c) =
-      λ i. asks true (words_spilled count c.plain.stack i) (record (pace_of c) { held = held_reserved count c.plain.stack i }) in
-      refit Few c (asks true (length (spilled count c.plain.stack)) (pace_of d)) (asks_stack Sres count (pace_of c)) _ same
+      λ i. asks true (words_spilled count c.plain.stack i)
+      (record (pace_of c) { held = held_reserved count c.plain.stack i }) in
+      refit Few c (asks true (length (spilled count c.plain.stack)) (pace_of d))
+      (asks_stack Sres count (pace_of c)) _ same
       (leaves_moves d true (length (spilled count c.plain.stack)))
   leaves_stacked Sens count c =
       let d : Core = with_plain (λ x. record x { stack = refilled count x.private x.stack }) c in
       let same : asks false (missing count c.plain.stack) (pace_of d) ≡ asks_stack Sens count (pace_of c) =
-      λ i. asks false (missing count c.plain.stack) (record (pace_of c) { held = held_refilled count c.plain.private c.plain.stack i }) in
+      λ i. asks false (missing count c.plain.stack)
+      (record (pace_of c) { held = held_refilled count c.plain.private c.plain.stack i }) in
       refit Few c (asks false (missing count c.plain.stack) (pace_of d)) (asks_stack Sens count (pace_of c)) _ same
       (leaves_moves d false (missing count c.plain.stack))
   leaves_stacked Sfree count c = record {
@@ -199,8 +242,10 @@ module _ (Few : Type 0) where
   leaves_cached : (rd : ℕ) (width : Width) (address : ℕ) (c : Core) → LeavesOf Few c (asks_cached address (pace_of c))
       (record { core = cache_loaded rd width address c.plain.free c; pending_store = None })
   leaves_cached rd width address c =
-      subst (λ b. LeavesOf Few c (asks_cached address (pace_of c)) (record { core = cached_by b; pending_store = None }))
-      (sym (present_by_loads address (reverse c.seen.cached))) (by (is_loaded address (addresses (reverse c.seen.cached))))
+      subst (λ b. LeavesOf Few c (asks_cached address (pace_of c))
+      (record { core = cached_by b; pending_store = None }))
+      (sym (present_by_loads address (reverse c.seen.cached)))
+      (by (is_loaded address (addresses (reverse c.seen.cached))))
     where
       cached_by : Bool → Core
       cached_by b = elim (if b then Some (cache.last_word address (reverse c.seen.cached)) else None) as (λ _. Core) [
@@ -220,44 +265,60 @@ module _ (Few : Type 0) where
         site_is = refl;
         status_is = refl;
         flow_is = refl;
-        pace = λ i. record (pace_of c) { free = c.plain.free + 1; loads = loads_after_load c.seen.cached address None i };
+        pace = λ i. record (pace_of c) {
+          free = c.plain.free + 1;
+          loads = loads_after_load c.seen.cached
+              address None i;
+        };
         pending = λ few some. refl;
       }
       by false = record { site_is = refl; status_is = refl; flow_is = refl; pace = refl; pending = λ few some. refl }
 
   -- a bundle's effect takes its event from the pace
-  pub leaves_answered : (asked : Effect) (c : Core) → (Few → c.plain.transfer.words ≡ 0) → Leaves (LeavesOf Few c (asked_by (event_of asked) (pace_of c))) (answered asked c.plain.free c)
-  leaves_answered effect.Nothing c few = record { site_is = refl; status_is = refl; flow_is = refl; pace = refl; pending = λ is some. refl }
-  leaves_answered (effect.Flow kind) c few = record { site_is = refl; status_is = refl; flow_is = refl; pace = refl; pending = λ is some. refl }
-  leaves_answered (effect.Load mem.S width rd address) c few = record { site_is = refl; status_is = refl; flow_is = refl; pace = refl; pending = λ is some. refl }
+  pub leaves_answered : (asked : Effect) (c : Core) → (Few → c.plain.transfer.words ≡ 0)
+      → Leaves (LeavesOf Few c (asked_by (event_of asked) (pace_of c))) (answered asked c.plain.free c)
+  leaves_answered effect.Nothing c few =
+      record { site_is = refl; status_is = refl; flow_is = refl; pace = refl; pending = λ is some. refl }
+  leaves_answered (effect.Flow kind) c few =
+      record { site_is = refl; status_is = refl; flow_is = refl; pace = refl; pending = λ is some. refl }
+  leaves_answered (effect.Load mem.S width rd address) c few =
+      record { site_is = refl; status_is = refl; flow_is = refl; pace = refl; pending = λ is some. refl }
   leaves_answered (effect.Load mem.L width rd address) c few =
       leaves_reading (LeavesOf Few c (record (pace_of c) { free = c.plain.free + 1 })) (cell_of Local address) c.plain
       (λ word. now (with_plain (λ x. ends c.plain.free (with_value rd width address word x)) c))
       (λ word. record { site_is = refl; status_is = refl; flow_is = refl; pace = refl; pending = λ is some. refl })
   leaves_answered (effect.Load mem.C width rd address) c few = leaves_cached rd width address c
-  leaves_answered (effect.Load mem.M width rd address) c few = record { site_is = refl; status_is = refl; flow_is = refl; pace = refl; pending = λ is some. refl }
+  leaves_answered (effect.Load mem.M width rd address) c few =
+      record { site_is = refl; status_is = refl; flow_is = refl; pace = refl; pending = λ is some. refl }
   leaves_answered (effect.Store mem.S width address value) c few = record {
     site_is = refl;
     status_is = refl;
     flow_is = refl;
     pace = λ i. record (pace_of c) {
       free = c.plain.free + 1;
-      held = length-set c.plain.stack.words (address / 4) (merged width address (slice_index c.plain.stack.words (address / 4)) value) i;
+      held = length-set c.plain.stack.words (address / 4)
+          (merged width address (slice_index c.plain.stack.words (address / 4)) value) i;
     };
     pending = λ is some. refl;
   }
-  leaves_answered (effect.Store mem.L width address value) c few = leaves_writing (cell_of Local address) width address value (with_plain (ends c.plain.free) c) few
-  leaves_answered (effect.Store mem.C width address value) c few = record { site_is = refl; status_is = refl; flow_is = refl; pace = refl; pending = λ is some. refl }
-  leaves_answered (effect.Store mem.M width address value) c few = record { site_is = refl; status_is = refl; flow_is = refl; pace = refl; pending = λ is some. refl }
+  leaves_answered (effect.Store mem.L width address value) c few =
+      leaves_writing (cell_of Local address) width address value (with_plain (ends c.plain.free) c) few
+  leaves_answered (effect.Store mem.C width address value) c few =
+      record { site_is = refl; status_is = refl; flow_is = refl; pace = refl; pending = λ is some. refl }
+  leaves_answered (effect.Store mem.M width address value) c few =
+      record { site_is = refl; status_is = refl; flow_is = refl; pace = refl; pending = λ is some. refl }
   leaves_answered (effect.StackOp func count) c few = leaves_stacked func count c
 
 -- how a bundle may leave a core, with its events: stopped by a check; or as the event of its effect says
 pub data Bundles (c : Core) (events : List Event) (y : Acted) : Type 0 where
-  traps : (fault : Trap) → y ≡ record { core = with_plain (stopped fault c.plain.free) c; pending_store = None } → events ≡ [] → Bundles c events y
+  traps : (fault : Trap) → y ≡ record { core = with_plain (stopped fault c.plain.free) c; pending_store = None }
+      → events ≡ [] → Bundles c events y
   does : (asked : Effect) (flow : Option Flow) → events ≡ event_of asked ∷ []
-      → LeavesAs (c.plain.transfer.words ≡ 0) c.plain.site c.plain.status flow (asked_by (event_of asked) (pace_of c)) y → Bundles c events y
+      → LeavesAs (c.plain.transfer.words ≡ 0) c.plain.site c.plain.status flow (asked_by (event_of asked) (pace_of c)) y
+      → Bundles c events y
 
-pub leaves_bundle : (fetched : Fetched) (c : Core) → Leaves (Bundles c (bundle_event fetched c.plain)) (done_as fetched c.plain.free c)
+pub leaves_bundle : (fetched : Fetched) (c : Core) → Leaves (Bundles c (bundle_event fetched c.plain)) (done_as fetched
+    c.plain.free c)
 leaves_bundle Outside c = traps trap.Flow refl refl
 leaves_bundle NoBundle c = traps trap.Decode refl refl
 leaves_bundle (Found b words) c = by (fault_of c.plain (effect_of b c.plain.regs))
@@ -268,11 +329,18 @@ leaves_bundle (Found b words) c = by (fault_of c.plain (effect_of b c.plain.regs
     d : Core
     d = with_plain (advanced words b) c
 
-    by : (fault : Option Trap) → Leaves (Bundles c (elim fault as (λ _. List Event) [ None ↦ event_of asked ∷ [] | Some f ↦ [] ]))
-        (elim fault as (λ _. Prog Acted) [ None ↦ answered asked c.plain.free d | Some f ↦ now (with_plain (stopped f c.plain.free) c) ])
+    by : (fault : Option Trap)
+        → Leaves (Bundles c (elim fault as (λ _. List Event) [ None ↦ event_of asked ∷ [] | Some f ↦ [] ]))
+        (elim fault as (λ _. Prog Acted) [
+          | None ↦ answered asked c.plain.free d
+          | Some f ↦ now
+              (with_plain (stopped f c.plain.free) c)
+        ])
     by (Some f) = traps f refl refl
-    by None = leaves_map (LeavesAs (c.plain.transfer.words ≡ 0) c.plain.site c.plain.status d.plain.flow (asked_by (event_of asked) (pace_of c))) (Bundles c (event_of asked ∷ []))
-        (λ y h. does asked d.plain.flow refl h) (answered asked c.plain.free d) (leaves_answered (c.plain.transfer.words ≡ 0) asked d (λ few. few))
+    by None = leaves_map (LeavesAs (c.plain.transfer.words ≡ 0) c.plain.site c.plain.status d.plain.flow
+        (asked_by (event_of asked) (pace_of c))) (Bundles c (event_of asked ∷ []))
+        (λ y h. does asked d.plain.flow refl h) (answered asked c.plain.free d)
+        (leaves_answered (c.plain.transfer.words ≡ 0) asked d (λ few. few))
 
 -- what an event asks for: words that are moved from now on; or nothing, and then the bundle ends with its cycle
 pub data Asks (p q : Pace) : Type 0 where
@@ -282,7 +350,11 @@ pub data Asks (p q : Pace) : Type 0 where
 asks_so : (write : Bool) (words : ℕ) (p : Pace) → Asks p (asks write words p)
 asks_so write words p = by (words == 0) refl
   where
-    by : (b : Bool) → (words == 0) ≡ b → Asks p (elim b as (λ _. Pace) [ true ↦ record p { free = p.free + 1 } | false ↦ record p { write = write; words = words; line = None } ])
+    by : (b : Bool) → (words == 0) ≡ b → Asks p (elim b as (λ _. Pace) [
+      | true ↦ record p { free = p.free + 1 }
+      | false ↦
+          record p { write = write; words = words; line = None }
+    ])
     by true is = no_words refl refl refl
     by false is = some_words (let positive : words ≡ 0 → ⊥ = eqb-false words 0 is in omega (arith, positive)) refl
 
@@ -313,9 +385,11 @@ asks_of_event (effect.Store mem.L width address value) p = no_words refl refl re
 asks_of_event (effect.Store mem.C width address value) p = some_words (lit< tt) refl
 asks_of_event (effect.Store mem.M width address value) p = some_words (lit< tt) refl
 asks_of_event (effect.StackOp Sres count) p =
-    holding p _ (min STACK_CACHE_WORDS (count + p.held)) (asks_so true (count + p.held - STACK_CACHE_WORDS) (record p { held = min STACK_CACHE_WORDS (count + p.held) }))
+    holding p _ (min STACK_CACHE_WORDS (count + p.held)) (asks_so true (count + p.held - STACK_CACHE_WORDS)
+    (record p { held = min STACK_CACHE_WORDS (count + p.held) }))
 asks_of_event (effect.StackOp Sens count) p =
-    holding p _ (p.held + (count - p.held)) (asks_so false (count - p.held) (record p { held = p.held + (count - p.held) }))
+    holding p _ (p.held + (count - p.held)) (asks_so false (count - p.held)
+    (record p { held = p.held + (count - p.held) }))
 asks_of_event (effect.StackOp Sfree count) p = no_words refl refl refl
 
 -- ---- transactions
@@ -330,43 +404,57 @@ bursted site u p = record p {
   loads = with_line p.line p.loads;
 }
 
-pub leaves_transaction : (c : Core) (u : ℕ) → Leaves (LeavesAs ⊥ c.plain.site c.plain.status c.plain.flow (bursted c.plain.site u (pace_of c))) (transaction u c)
+pub leaves_transaction : (c : Core) (u : ℕ) → Leaves (LeavesAs ⊥ c.plain.site c.plain.status c.plain.flow
+    (bursted c.plain.site u (pace_of c))) (transaction u c)
 unfolding transaction
 leaves_transaction c u = by c.plain.transfer.then
   where
     left : Then → Acted → Type 0
-    left moved_on = LeavesAs ⊥ c.plain.site c.plain.status c.plain.flow (bursted c.plain.site u (record (pace_of c) { line = line_in moved_on }))
+    left moved_on = LeavesAs ⊥ c.plain.site c.plain.status c.plain.flow
+        (bursted c.plain.site u (record (pace_of c) { line = line_in moved_on }))
 
-    stored_loads : (kept : Bool) (width : StoreWidth) (address value : ℕ) → addresses (reverse (with_store kept width address value (counted u c).seen).cached) ≡ addresses (reverse c.seen.cached)
+    stored_loads : (kept : Bool) (width : StoreWidth) (address value : ℕ)
+        → addresses (reverse (with_store kept width address value (counted u c).seen).cached)
+        ≡ addresses (reverse c.seen.cached)
     stored_loads false width address value = refl
     stored_loads true width address value =
-        loads_after_store c.seen.cached address (merged width address (unwrap_or (cache.cached_word c.seen.cached address) 0) value)
+        loads_after_store c.seen.cached address
+        (merged width address (unwrap_or (cache.cached_word c.seen.cached address) 0) value)
 
-    stored_accesses : (kept : Bool) (width : StoreWidth) (address value : ℕ) → (with_store kept width address value (counted u c).seen).accesses ≡ (counted u c).seen.accesses
+    stored_accesses : (kept : Bool) (width : StoreWidth) (address value : ℕ)
+        → (with_store kept width address value (counted u c).seen).accesses ≡ (counted u c).seen.accesses
     stored_accesses false width address value = refl
     stored_accesses true width address value = refl
 
-    stored_misses : (kept : Bool) (width : StoreWidth) (address value : ℕ) → (with_store kept width address value (counted u c).seen).misses ≡ c.seen.misses
+    stored_misses : (kept : Bool) (width : StoreWidth) (address value : ℕ)
+        → (with_store kept width address value (counted u c).seen).misses ≡ c.seen.misses
     stored_misses false width address value = refl
     stored_misses true width address value = refl
 
     by : (moved_on : Then) → Leaves (left moved_on) (transaction_then moved_on u c)
-    by then_on.Nothing = record { site_is = refl; status_is = refl; flow_is = refl; pace = refl; pending = λ few. absurd few }
+    by then_on.Nothing =
+        record { site_is = refl; status_is = refl; flow_is = refl; pace = refl; pending = λ few. absurd few }
     by (then_on.Load rd width address) =
-        leaves_reading (left (then_on.Load rd width address)) (cell_of Main address) c.plain (λ word. now (with_plain (with_value rd width address word) (counted u c)))
+        leaves_reading (left (then_on.Load rd width address)) (cell_of Main address) c.plain
+        (λ word. now (with_plain (with_value rd width address word) (counted u c)))
         (λ word. record { site_is = refl; status_is = refl; flow_is = refl; pace = refl; pending = λ few. absurd few })
     by (then_on.Line rd width address) =
-        leaves_reading_line (left (then_on.Line rd width address)) (cell_of Main (line_address address)) c.plain (λ words. now (line_taken rd width address words (counted u c)))
+        leaves_reading_line (left (then_on.Line rd width address)) (cell_of Main (line_address address)) c.plain
+        (λ words. now (line_taken rd width address words (counted u c)))
         (λ words. record {
           site_is = refl;
           status_is = refl;
           flow_is = refl;
-          pace = λ i. record (bursted c.plain.site u (record (pace_of c) { line = Some address })) { loads = loads_after_load c.seen.cached address (Some words) i };
+          pace = λ i. record (bursted c.plain.site u (record (pace_of c) { line = Some address })) {
+            loads = loads_after_load c.seen.cached address (Some words) i;
+          };
           pending = λ few. absurd few;
         })
     by (then_on.Store kept width address value) =
-        let d : Core = record { plain = moved u c.plain; seen = with_store kept width address value (counted u c).seen } in
-        leaves_map (LeavesAs ⊥ d.plain.site d.plain.status d.plain.flow (pace_of d)) (left (then_on.Store kept width address value))
+        let d : Core =
+        record { plain = moved u c.plain; seen = with_store kept width address value (counted u c).seen } in
+        leaves_map (LeavesAs ⊥ d.plain.site d.plain.status d.plain.flow (pace_of d))
+        (left (then_on.Store kept width address value))
         (λ y h. record {
           site_is = h.site_is;
           status_is = h.status_is;
@@ -377,4 +465,5 @@ leaves_transaction c u = by c.plain.transfer.then
             loads = stored_loads kept width address value i;
           });
           pending = λ few. absurd few;
-        }) (writing (cell_of Main address) width address value d) (leaves_writing ⊥ (cell_of Main address) width address value d (λ few. absurd few))
+        }) (writing (cell_of Main address) width address value d) (leaves_writing ⊥ (cell_of Main address) width address
+        value d (λ few. absurd few))

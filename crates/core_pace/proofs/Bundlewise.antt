@@ -25,12 +25,14 @@ running_about m (about_to about) runs = about
 running_about m (ended status over free) runs =
     let y : Plain = (core_in m).plain in
     let still : is_running y ≡ false =
-    ap (λ (s : Status). elim s as (λ _. Bool) [ Idle ↦ false | Running ↦ not (has_ended y) | Trapped t at ↦ false ]) status ∙ ap not over in
+    ap (λ (s : Status). elim s as (λ _. Bool) [ Idle ↦ false | Running ↦ not (has_ended y) | Trapped t at ↦ false ])
+    status ∙ ap not over in
     absurd (let bad : true ≡ false = sym runs ∙ still in cc)
 running_about m (trapped fault status) runs =
     let y : Plain = (core_in m).plain in
     let still : is_running y ≡ false =
-    ap (λ (s : Status). elim s as (λ _. Bool) [ Idle ↦ false | Running ↦ not (has_ended y) | Trapped t at ↦ false ]) status in
+    ap (λ (s : Status). elim s as (λ _. Bool) [ Idle ↦ false | Running ↦ not (has_ended y) | Trapped t at ↦ false ])
+    status in
     absurd (let bad : true ≡ false = sym runs ∙ still in cc)
 
 module _ (n core : ℕ) (site : Site) (input values : List ℕ) where
@@ -39,7 +41,8 @@ module _ (n core : ℕ) (site : Site) (input values : List ℕ) where
     pub passes : Passes n core (begun site input) values m
     pub comes : ComesTo m
     pub free : (core_in m).plain.free ≡ m.cycle
-    pub ended_before : (core_in m).plain.status ≡ Running → is_running (core_in m).plain ≡ false → Enters n core (begun site input) values m
+    pub ended_before : (core_in m).plain.status ≡ Running → is_running (core_in m).plain ≡ false
+        → Enters n core (begun site input) values m
     pub site_is : (core_in m).plain.site ≡ site
     pub pace : pace_of (core_in m) ≡ clock site events (starting site)
 
@@ -65,25 +68,36 @@ module _ (n core : ℕ) (site : Site) (input values : List ℕ) where
       } in
       let all : IsAllMoved n core x values m1 = moves_all n core x values m1 due (waits_free n core x values m0 refl) in
       let m2 : Moment = all_moved n core m1 in
-      let pace2 : pace_of (core_in m2) ≡ clock site (first_event site ∷ []) (starting site) = all.left.pace ∙ (λ i. carried (site1 i) (pace1 i)) in
+      let pace2 : pace_of (core_in m2) ≡ clock site (first_event site ∷ []) (starting site) =
+      all.left.pace ∙ (λ i. carried (site1 i) (pace1 i)) in
       record {
         passes = all.passes;
-        comes = comes_to n core m2 (sym all.cycle) all.words (ap (λ (p : Pace). p.line) pace2 ∙ carried_line site (asked_by (first_event site) (starting site)) (inr refl)) (moved_halted n core x values m1 all (inl status1))
+        comes = comes_to n core m2 (sym all.cycle) all.words (ap (λ (p : Pace). p.line) pace2
+            ∙ carried_line site (asked_by (first_event site) (starting site)) (inr refl))
+            (moved_halted n core x values m1 all (inl status1))
             (λ runs. ap is_due_flow (all.left.flow_is ∙ flow1));
         free = sym all.cycle;
         ended_before = λ runs still.
-            absurd (let bad : true ≡ false = sym (flowless_runs (core_in m2).plain runs (all.left.flow_is ∙ flow1)) ∙ still in cc);
+            absurd (let bad : true ≡ false = sym (flowless_runs (core_in m2).plain runs (all.left.flow_is ∙ flow1))
+            ∙ still in cc);
         site_is = all.left.site_is ∙ site1;
         pace = pace2;
       }
 
-  onward_passed : (events : List Event) (m : Moment) → IsSlotted site → IsPassed events m → IsPassed (events ++ events_onward n core m) (onward n core m)
+  onward_passed : (events : List Event) (m : Moment) → IsSlotted site → IsPassed events m
+      → IsPassed (events ++ events_onward n core m) (onward n core m)
   onward_passed events m slots h = by (is_running (core_in m).plain) refl
     where
       by : (b : Bool) → is_running (core_in m).plain ≡ b
-          → IsPassed (events ++ elim b as (λ _. List Event) [ true ↦ events_in n core m | false ↦ [] ]) (elim b as (λ _. Moment) [ true ↦ next n core m | false ↦ m ])
+          → IsPassed (events ++ elim b as (λ _. List Event) [ true ↦ events_in n core m | false ↦ [] ])
+          (elim b as (λ _. Moment) [ true ↦ next n core m | false ↦ m ])
       by true runs =
-          let at : IsAtBundle n core (begun site input) values m = record { slots = subst IsSlotted (sym h.site_is) slots; about = running_about m h.comes runs; passes = h.passes } in
+          let at : IsAtBundle n core (begun site input) values m =
+          record {
+            slots = subst IsSlotted (sym h.site_is) slots;
+            about = running_about m h.comes runs;
+            passes = h.passes;
+          } in
           let on : GoesOnward n core (begun site input) values m = goes_onward n core (begun site input) values m at in
           record {
             passes = on.passes;
@@ -91,7 +105,8 @@ module _ (n core : ℕ) (site : Site) (input values : List ℕ) where
             free = on.free;
             ended_before = on.ended_before;
             site_is = on.site_is ∙ h.site_is;
-            pace = on.pace ∙ (λ i. clock (h.site_is i) (events_in n core m) (h.pace i)) ∙ sym (clock-append site events (events_in n core m) (starting site));
+            pace = on.pace ∙ (λ i. clock (h.site_is i) (events_in n core m) (h.pace i))
+                ∙ sym (clock-append site events (events_in n core m) (starting site));
           }
       by false still = record {
         passes = h.passes;
@@ -102,67 +117,97 @@ module _ (n core : ℕ) (site : Site) (input values : List ℕ) where
         pace = h.pace ∙ sym (clock-append site events [] (starting site));
       }
 
-  pub all_passed : (count : ℕ) → IsSlotted site → IsPassed (past n core (begun site input) values count) (after_bundles n core (begun site input) values count)
+  pub all_passed : (count : ℕ) → IsSlotted site → IsPassed (past n core (begun site input) values count) (after_bundles
+      n core (begun site input) values count)
   all_passed zero slots = first_passed slots
   all_passed (suc count) slots =
-      onward_passed (past n core (begun site input) values count) (after_bundles n core (begun site input) values count) slots (all_passed count slots)
+      onward_passed (past n core (begun site input) values count) (after_bundles n core (begun site input) values count)
+      slots (all_passed count slots)
 
   -- a moment in which the core still runs comes later than the one before
-  onward_later : (events : List Event) (m : Moment) → IsSlotted site → IsPassed events m → is_running (core_in (onward n core m)).plain ≡ true
+  onward_later : (events : List Event) (m : Moment) → IsSlotted site → IsPassed events m
+      → is_running (core_in (onward n core m)).plain ≡ true
       → (is_running (core_in m).plain ≡ true) × (m.cycle < (onward n core m).cycle)
   onward_later events m slots h runs = by (is_running (core_in m).plain) refl runs
     where
-      by : (b : Bool) → is_running (core_in m).plain ≡ b → is_running (core_in (elim b as (λ _. Moment) [ true ↦ next n core m | false ↦ m ])).plain ≡ true
-          → (is_running (core_in m).plain ≡ true) × (m.cycle < (elim b as (λ _. Moment) [ true ↦ next n core m | false ↦ m ]).cycle)
+      by : (b : Bool) → is_running (core_in m).plain ≡ b
+          → is_running (core_in (elim b as (λ _. Moment) [ true ↦ next n core m | false ↦ m ])).plain ≡ true
+          → (is_running (core_in m).plain ≡ true)
+          × (m.cycle < (elim b as (λ _. Moment) [ true ↦ next n core m | false ↦ m ]).cycle)
       by true is on =
-          let at : IsAtBundle n core (begun site input) values m = record { slots = subst IsSlotted (sym h.site_is) slots; about = running_about m h.comes is; passes = h.passes } in
-          (is, (goes_onward n core (begun site input) values m at).later (running_status (core_in (next n core m)).plain on))
+          let at : IsAtBundle n core (begun site input) values m =
+          record {
+            slots = subst IsSlotted (sym h.site_is) slots;
+            about = running_about m h.comes is;
+            passes = h.passes;
+          } in (
+            is,
+            (goes_onward n core (begun site input) values m at).later
+                (running_status (core_in (next n core m)).plain on),
+          )
       by false is on = absurd (let bad : true ≡ false = sym on ∙ is in cc)
 
-  pub runs_later : (count : ℕ) → IsSlotted site → is_running (core_in (after_bundles n core (begun site input) values (suc count))).plain ≡ true
-      → (after_bundles n core (begun site input) values count).cycle < (after_bundles n core (begun site input) values (suc count)).cycle
+  pub runs_later : (count : ℕ) → IsSlotted site
+      → is_running (core_in (after_bundles n core (begun site input) values (suc count))).plain ≡ true
+      → (after_bundles n core (begun site input) values count).cycle < (after_bundles n core (begun site input) values
+      (suc count)).cycle
   runs_later count slots runs =
-      (onward_later (past n core (begun site input) values count) (after_bundles n core (begun site input) values count) slots (all_passed count slots) runs).1
+      (onward_later (past n core (begun site input) values count) (after_bundles n core (begun site input) values count)
+      slots (all_passed count slots) runs).1
 
   -- ---- the run cut at a cycle
 
-  pub cut_accesses : (count cycles : ℕ) → IsSlotted site → cycles ≤ (after_bundles n core (begun site input) values count).cycle
-      → (apart turn n core (begun site input) values cycles).core.seen.accesses ≡ below cycles (core_in (after_bundles n core (begun site input) values count)).seen.accesses
+  pub cut_accesses : (count cycles : ℕ) → IsSlotted site
+      → cycles ≤ (after_bundles n core (begun site input) values count).cycle
+      → (apart turn n core (begun site input) values cycles).core.seen.accesses
+      ≡ below cycles (core_in (after_bundles n core (begun site input) values count)).seen.accesses
   cut_accesses count cycles slots early =
-      sym (accesses_at n core (begun site input) values refl (after_bundles n core (begun site input) values count) cycles early (all_passed count slots).passes
+      sym (accesses_at n core (begun site input) values refl (after_bundles n core (begun site input) values count)
+      cycles early (all_passed count slots).passes
       ∙ ap (λ (a : Alone Core). a.core.seen.accesses) (run_before n core (begun site input) values cycles))
 
-  pub cut_bundles : (count cycles : ℕ) → IsSlotted site → cycles ≤ (after_bundles n core (begun site input) values count).cycle
-      → (before n core (begun site input) values cycles).bundles ≡ done_below cycles (after_bundles n core (begun site input) values count).bundles
+  pub cut_bundles : (count cycles : ℕ) → IsSlotted site
+      → cycles ≤ (after_bundles n core (begun site input) values count).cycle
+      → (before n core (begun site input) values cycles).bundles
+      ≡ done_below cycles (after_bundles n core (begun site input) values count).bundles
   cut_bundles count cycles slots early =
-      sym (bundles_at n core (begun site input) values (after_bundles n core (begun site input) values count) cycles early (all_passed count slots).passes)
+      sym (bundles_at n core (begun site input) values (after_bundles n core (begun site input) values count) cycles
+      early (all_passed count slots).passes)
 
-  pub cut_ended : (count cycles : ℕ) → IsSlotted site → is_running (core_in (after_bundles n core (begun site input) values count)).plain ≡ false
+  pub cut_ended : (count cycles : ℕ) → IsSlotted site
+      → is_running (core_in (after_bundles n core (begun site input) values count)).plain ≡ false
       → (after_bundles n core (begun site input) values count).cycle < cycles
-      → IsSameTask (core_in (after_bundles n core (begun site input) values count)) (apart turn n core (begun site input) values cycles).core
+      → IsSameTask (core_in (after_bundles n core (begun site input) values count)) (apart turn n core
+      (begun site input) values cycles).core
   cut_ended count cycles slots still late =
       let m : Moment = after_bundles n core (begun site input) values count in
       let far : suc m.cycle + (cycles - suc m.cycle) ≡ cycles = omega (arith, late) in
-      let there : core_in (before n core (begun site input) values cycles) ≡ (apart turn n core (begun site input) values cycles).core =
+      let there : core_in (before n core (begun site input) values cycles)
+      ≡ (apart turn n core (begun site input) values cycles).core =
       ap (λ (a : Alone Core). a.core) (run_before n core (begun site input) values cycles) in
       subst (IsSameTask (core_in m)) there
       (subst (λ u. IsSameTask (core_in m) (core_in (before n core (begun site input) values u))) far
       (ends_at n core (begun site input) values m (cycles - suc m.cycle) still (all_passed count slots).passes))
 
   -- the cycle of a moment is the clock's
-  pub clock_cycle : (count : ℕ) → IsSlotted site → (after_bundles n core (begun site input) values count).cycle ≡ (clock site (past n core (begun site input) values count) (starting site)).free
+  pub clock_cycle : (count : ℕ) → IsSlotted site → (after_bundles n core (begun site input) values count).cycle
+      ≡ (clock site (past n core (begun site input) values count) (starting site)).free
   clock_cycle count slots =
       let h = all_passed count slots in
       sym h.free ∙ ap (λ (p : Pace). p.free) h.pace
 
   -- a task that has ended has done so before the cycle of that moment begins
-  pub cut_ended_there : (count : ℕ) → IsSlotted site → (core_in (after_bundles n core (begun site input) values count)).plain.status ≡ Running
+  pub cut_ended_there : (count : ℕ) → IsSlotted site
+      → (core_in (after_bundles n core (begun site input) values count)).plain.status ≡ Running
       → is_running (core_in (after_bundles n core (begun site input) values count)).plain ≡ false
-      → IsSameTask (core_in (after_bundles n core (begun site input) values count)) (apart turn n core (begun site input) values (after_bundles n core (begun site input) values count).cycle).core
+      → IsSameTask (core_in (after_bundles n core (begun site input) values count)) (apart turn n core
+      (begun site input) values (after_bundles n core (begun site input) values count).cycle).core
   cut_ended_there count slots runs still =
       let m : Moment = after_bundles n core (begun site input) values count in
       let z : Moment = before n core (begun site input) values m.cycle in
       let enters_it : interfaced n core z ≡ m = (all_passed count slots).ended_before runs still in
-      let there : core_in z ≡ (apart turn n core (begun site input) values m.cycle).core = ap (λ (a : Alone Core). a.core) (run_before n core (begun site input) values m.cycle) in
-      let back : IsSameTask (core_in (interfaced n core z)) (core_in z) = sym (ap (λ (c : Core). with_interface c (core_in z).plain.interface) (interface_apart n core z)) in
+      let there : core_in z ≡ (apart turn n core (begun site input) values m.cycle).core =
+      ap (λ (a : Alone Core). a.core) (run_before n core (begun site input) values m.cycle) in
+      let back : IsSameTask (core_in (interfaced n core z)) (core_in z) =
+      sym (ap (λ (c : Core). with_interface c (core_in z).plain.interface) (interface_apart n core z)) in
       subst (IsSameTask (core_in m)) there (subst (λ (y : Moment). IsSameTask (core_in y) (core_in z)) enters_it back)

@@ -14,5 +14,10 @@ pub heard_alone : (n core : ℕ) (x : Core) (values : List ℕ) (t : ℕ) → co
 heard_alone n core x values t among more =
     let run : Alone Core = run_apart (act_at turn n) n core x values (2 * t * n) in
     let same : apart turn n core x values t ≡ run = apart_by_stamps turn n core x values t among in
-    subst (λ (z : Alone Core). apart turn n core x (loads z.made ++ more) t ≡ record { core = z.core; left = more; made = z.made }) (sym same)
-    (apart_by_stamps turn n core x (loads run.made ++ more) t among ∙ alone_stands (act_at turn n) n core x values (2 * t * n) more)
+    subst (λ (z : Alone Core). apart turn n core x (loads z.made ++ more) t ≡ record {
+      core = z.core;
+      left = more;
+      made = z.made;
+    }) (sym same)
+    (apart_by_stamps turn n core x (loads run.made ++ more) t among ∙ alone_stands (act_at turn n) n core x values
+    (2 * t * n) more)

@@ -24,18 +24,23 @@ module _ (n core : ℕ) where
   waited_own zero m = refl
   waited_own (suc d) m = waited_own d m
 
-  moved_bundles : (count : ℕ) (m : Moment) → (moved n core count m).bundles ≡ m.bundles
-  moved_bundles zero m = refl
-  moved_bundles (suc count) m =
-      let u : ℕ = start_in (core_in m).plain.site m.cycle in
-      moved_bundles count (moved_once n core m)
-      ∙ waited_bundles (core_in m).plain.site.slot (transacted n core (until n core u m))
-      ∙ waited_bundles (u - m.cycle) m
+  -- what waiting keeps, and a transaction, the words of a transfer keep
+  pub all_moved_keeps : (P : Moment → Type 0) → ((d : ℕ) (m : Moment) → P m → P (waited n core d m))
+      → ((m : Moment) → P m → P (transacted n core m)) → (m : Moment) → P m → P (all_moved n core m)
+  all_moved_keeps P waits moves m h =
+      let z : Moment = moved n core (slots_of (core_in m).plain.transfer.words) m in
+      waits ((core_in z).plain.free - z.cycle) z (by (slots_of (core_in m).plain.transfer.words) m h)
+    where
+      by : (count : ℕ) (m : Moment) → P m → P (moved n core count m)
+      by zero m h = h
+      by (suc count) m h =
+          let start : ℕ = start_in (core_in m).plain.site m.cycle in
+          let u : Moment = until n core start m in
+          by count (moved_once n core m) (waits (core_in m).plain.site.slot (transacted n core u)
+          (moves u (waits (start - m.cycle) m h)))
 
   pub all_moved_bundles : (m : Moment) → (all_moved n core m).bundles ≡ m.bundles
-  all_moved_bundles m =
-      let m' : Moment = moved n core (slots_of (core_in m).plain.transfer.words) m in
-      waited_bundles ((core_in m').plain.free - m'.cycle) m' ∙ moved_bundles (slots_of (core_in m).plain.transfer.words) m
+  all_moved_bundles m = all_moved_keeps (λ z. z.bundles ≡ m.bundles) (λ d z h. waited_bundles d z ∙ h) (λ z h. h) m refl
 
   -- a bundle that passes has an event, and one that does not has none
   done_so : (m : Moment) (fetched : Fetched) → (elim (passes fetched (core_in m).plain) as (λ _. List Done) [
@@ -56,12 +61,21 @@ module _ (n core : ℕ) where
       by None = refl
       by (Some f) = refl
 
-  pub next_bundles : (m : Moment) → IsAboutTo m → (next n core m).bundles ≡ m.bundles ++ done_with (bundle_event (fetched_in (core_in m).plain) (core_in m).plain) m
+  pub next_bundles : (m : Moment) → IsAboutTo m → (next n core m).bundles ≡ m.bundles
+      ++ done_with (bundle_event (fetched_in (core_in m).plain) (core_in m).plain) m
   next_bundles m about =
       let x : Plain = (core_in m).plain in
       let one : List Done = record { base = x.base; offset = x.offset; cycle = m.cycle } ∷ [] in
       all_moved_bundles (landing (all_moved n core (bundled n core m)))
       ∙ all_moved_bundles (bundled n core m)
-      ∙ ap (λ b. m.bundles ++ elim (b && (is_free m.cycle x && passes (fetched_in x) x)) as (λ _. List Done) [ true ↦ one | false ↦ [] ]) about.running
-      ∙ ap (λ b. m.bundles ++ elim (b && passes (fetched_in x) x) as (λ _. List Done) [ true ↦ one | false ↦ [] ]) about.free
+      ∙ ap (λ b. m.bundles ++ elim (b && (is_free m.cycle x && passes (fetched_in x) x)) as (λ _. List Done) [
+        | true ↦
+            one
+        | false ↦ []
+      ]) about.running
+      ∙ ap (λ b. m.bundles ++ elim (b && passes (fetched_in x) x) as (λ _. List Done) [
+        | true ↦ one
+        | false ↦
+            []
+      ]) about.free
       ∙ ap (λ l. m.bundles ++ l) (done_so m (fetched_in x))

@@ -14,7 +14,8 @@ use Rattle.core_pace.specs.Bound.{most_in_slot, bundles_of, bundles_among}
 use Rattle.core_pace.proofs.SlotStarts.{start_is_next, gap_outlasts}
 
 -- as many transactions as there are slots
-made_in : (site : Site) (count : ℕ) (t words : ℕ) (write : Bool) → length (in_cycles (cycles_from site count t) (bursts_in count write words)) ≡ count
+made_in : (site : Site) (count : ℕ) (t words : ℕ) (write : Bool) → length (in_cycles (cycles_from site count t)
+    (bursts_in count write words)) ≡ count
 made_in site zero t words write = refl
 made_in site (suc count) t words write = ap suc (made_in site count (start_in site t + site.slot) (words - 4) write)
 
@@ -23,9 +24,12 @@ pub ends_within : (site : Site) (count t : ℕ) → IsSlotted site → end_from 
 ends_within site zero t slots = omega arith
 ends_within site (suc count) t slots =
     let u : ℕ = start_in site t in
-    let next : IsNext (is_slot_start site.table site.slot site.core) t u = start_is_next site.table site.slot site.core t slots in
-    let wait : u < t + gap_in site.table site.slot site.core = (gap_outlasts site.table site.slot site.core slots).wait t u next in
-    let rest : end_from site count (u + site.slot) ≤ u + site.slot + most_in_slot site * count = ends_within site count (u + site.slot) slots in
+    let next : IsNext (is_slot_start site.table site.slot site.core) t u =
+    start_is_next site.table site.slot site.core t slots in
+    let wait : u < t + gap_in site.table site.slot site.core =
+    (gap_outlasts site.table site.slot site.core slots).wait t u next in
+    let rest : end_from site count (u + site.slot) ≤ u + site.slot + most_in_slot site * count =
+    ends_within site count (u + site.slot) slots in
     let one : u + site.slot ≤ t + most_in_slot site = omega (arith, wait) in
     omega (arith, rest, one)
 
@@ -34,10 +38,16 @@ record AsksWithin (e : Event) (p q : Pace) : Type 0 where
   free : q.free ≤ p.free + bundles_of e
   accesses : q.accesses ≡ p.accesses
 
-within_asks : (write : Bool) (words held : ℕ) (e : Event) (p : Pace) → bundles_of e ≡ 1 → AsksWithin e p (asks write words (record p { held = held }))
+within_asks : (write : Bool) (words held : ℕ) (e : Event) (p : Pace) → bundles_of e ≡ 1
+    → AsksWithin e p (asks write words (record p { held = held }))
 within_asks write words held e p one = by (words == 0)
   where
-    by : (b : Bool) → AsksWithin e p (elim b as (λ _. Pace) [ true ↦ record p { held = held; free = p.free + 1 } | false ↦ record p { held = held; write = write; words = words; line = None } ])
+    by : (b : Bool)
+        → AsksWithin e p (elim b as (λ _. Pace) [
+          | true ↦ record p { held = held; free = p.free + 1 }
+          | false ↦
+              record p { held = held; write = write; words = words; line = None }
+        ])
     by true = record { free = omega (arith, one); accesses = refl }
     by false = record { free = omega arith; accesses = refl }
 
@@ -53,8 +63,10 @@ asks_within (cached address) p = by (is_loaded address p.loads)
     by true = record { free = omega arith; accesses = refl }
     by false = record { free = omega arith; accesses = refl }
 asks_within store p = record { free = omega arith; accesses = refl }
-asks_within (stack Sres count) p = within_asks true (count + p.held - STACK_CACHE_WORDS) (min STACK_CACHE_WORDS (count + p.held)) (stack Sres count) p refl
-asks_within (stack Sens count) p = within_asks false (count - p.held) (p.held + (count - p.held)) (stack Sens count) p refl
+asks_within (stack Sres count) p = within_asks true (count + p.held - STACK_CACHE_WORDS)
+    (min STACK_CACHE_WORDS (count + p.held)) (stack Sres count) p refl
+asks_within (stack Sens count) p =
+    within_asks false (count - p.held) (p.held + (count - p.held)) (stack Sens count) p refl
 asks_within (stack Sfree count) p = record { free = omega arith; accesses = refl }
 asks_within (came method) p = by (is_among method.function (resident p.misses))
   where
@@ -66,7 +78,8 @@ asks_within (came method) p = by (is_among method.function (resident p.misses))
     by false = record { free = omega arith; accesses = refl }
 
 -- the words that are moved take no more than the most of each transaction
-carried_within : (site : Site) (p : Pace) → IsSlotted site → (carried site p).free + most_in_slot site * length p.accesses ≤ p.free + most_in_slot site * length (carried site p).accesses
+carried_within : (site : Site) (p : Pace) → IsSlotted site → (carried site p).free + most_in_slot site
+    * length p.accesses ≤ p.free + most_in_slot site * length (carried site p).accesses
 carried_within site p slots = by (p.words == 0)
   where
     moved : Pace
@@ -78,23 +91,29 @@ carried_within site p slots = by (p.words == 0)
       loads = with_line p.line p.loads;
     }
 
-    by : (b : Bool) → (elim b as (λ _. Pace) [ true ↦ p | false ↦ moved ]).free + most_in_slot site * length p.accesses ≤ p.free + most_in_slot site * length (elim b as (λ _. Pace) [ true ↦ p | false ↦ moved ]).accesses
+    by : (b : Bool) → (elim b as (λ _. Pace) [ true ↦ p | false ↦ moved ]).free + most_in_slot site * length p.accesses
+        ≤ p.free + most_in_slot site * length (elim b as (λ _. Pace) [ true ↦ p | false ↦ moved ]).accesses
     by true = omega arith
     by false =
         let count : ℕ = slots_of p.words in
         let made : length moved.accesses ≡ length p.accesses + count =
-        length-append p.accesses (accesses_from site p.free p.write p.words) ∙ ap (λ k. length p.accesses + k) (made_in site count p.free p.words p.write) in
+        length-append p.accesses (accesses_from site p.free p.write p.words)
+        ∙ ap (λ k. length p.accesses + k) (made_in site count p.free p.words p.write) in
         let time : moved.free ≤ p.free + most_in_slot site * count = ends_within site count p.free slots in
-        let product : most_in_slot site * length moved.accesses ≡ most_in_slot site * (length p.accesses + count) = ap (λ k. most_in_slot site * k) made in
+        let product : most_in_slot site * length moved.accesses ≡ most_in_slot site * (length p.accesses + count) =
+        ap (λ k. most_in_slot site * k) made in
         omega (arith, time, product)
 
 pub clock_within : (site : Site) (es : List Event) (p : Pace) → IsSlotted site
-    → (clock site es p).free + most_in_slot site * length p.accesses ≤ p.free + bundles_among es + most_in_slot site * length (clock site es p).accesses
+    → (clock site es p).free + most_in_slot site * length p.accesses ≤ p.free + bundles_among es + most_in_slot site
+    * length (clock site es p).accesses
 clock_within site [] p slots = omega arith
 clock_within site (e ∷ es) p slots =
     let q : Pace = asked_by e p in
     let asks_for : AsksWithin e p q = asks_within e p in
-    let moves : (carried site q).free + most_in_slot site * length q.accesses ≤ q.free + most_in_slot site * length (carried site q).accesses = carried_within site q slots in
+    let moves : (carried site q).free + most_in_slot site * length q.accesses ≤ q.free + most_in_slot site
+    * length (carried site q).accesses = carried_within site q slots in
     let rest = clock_within site es (carried site q) slots in
-    let same : most_in_slot site * length q.accesses ≡ most_in_slot site * length p.accesses = ap (λ l. most_in_slot site * length l) asks_for.accesses in
+    let same : most_in_slot site * length q.accesses ≡ most_in_slot site * length p.accesses =
+    ap (λ l. most_in_slot site * length l) asks_for.accesses in
     omega (arith, asks_for.free, moves, rest, same)

@@ -19,7 +19,13 @@ use Rattle.core_pace.proofs.Bundlewise.{all_passed, cut_ended, cut_ended_there}
 
 -- a core with a task that does not run has ended it
 over : (x : Plain) → x.status ≡ status.Running → is_running x ≡ false → has_ended x ≡ true
-over x runs still = by (has_ended x) (sym (ap (λ (s : Status). elim s as (λ _. Bool) [ status.Idle ↦ false | status.Running ↦ not (has_ended x) | status.Trapped t at ↦ false ]) runs) ∙ still)
+over x runs still = by (has_ended x)
+    (sym (ap (λ (s : Status). elim s as (λ _. Bool) [
+      | status.Idle ↦ false
+      | status.Running ↦ not
+          (has_ended x)
+      | status.Trapped t at ↦ false
+    ]) runs) ∙ still)
   where
     by : (b : Bool) → not b ≡ false → b ≡ true
     by true e = refl
@@ -54,11 +60,13 @@ ended_is_done n core site input values count limit slots runs still within =
     let m : Moment = after_bundles n core (begun site input) values count in
     let x : Plain = (core_in m).plain in
     let h = all_passed n core site input values count slots in
-    let same : IsSameTask (core_in m) (apart turn n core (begun site input) values limit).core = elim (cases_lt m.cycle limit) [
+    let same : IsSameTask (core_in m) (apart turn n core (begun site input) values limit).core =
+    elim (cases_lt m.cycle limit) [
       | inl late ↦ cut_ended n core site input values count limit slots still late
       | inr there ↦
           let at : m.cycle ≡ limit = omega (arith, within, there) in
-          subst (λ u. IsSameTask (core_in m) (apart turn n core (begun site input) values u).core) at (cut_ended_there n core site input values count slots runs still)
+          subst (λ u. IsSameTask (core_in m) (apart turn n core (begun site input) values u).core) at
+          (cut_ended_there n core site input values count slots runs still)
     ] in
     ap (λ (c : Core). state_at limit c.plain) same
     ∙ done_at limit x runs (over x runs still) (omega (arith, h.free, within))

@@ -17,14 +17,21 @@ use Rattle.core_pace.proofs.Waits.{interface_apart}
 
 -- ---- programs that name such words alone
 
-kept_ops : {X : Type 0} (core : ℕ) (Q : X → Type 0) (s : ℕ) (p : Prog X) (values : List ℕ) → Keeps (IsOwnWord core) Any Q p → Each (StoresOwn core) (fed s p values).ops
+kept_ops : {X : Type 0} (core : ℕ) (Q : X → Type 0) (s : ℕ) (p : Prog X) (values : List ℕ)
+    → Keeps (IsOwnWord core) Any Q p → Each (StoresOwn core) (fed s p values).ops
 kept_ops core Q s (done x) values h = tt
-kept_ops core Q s (get word go_on) values h = ((λ is. absurd (let bad : false ≡ true = is in cc)), kept_ops core Q s (go_on (first values)) (others values) (h.1 (first values) tt))
+kept_ops core Q s (get word go_on) values h = (
+  (λ is. absurd (let bad : false ≡ true = is in cc)),
+  kept_ops core Q s
+      (go_on (first values)) (others values) (h.1 (first values) tt),
+)
 kept_ops core Q s (set word value rest) values h = ((λ is. h.0), kept_ops core Q s rest values h.2)
 
-kept_left : {X : Type 0} (core : ℕ) (Q : X → Type 0) (s : ℕ) (p : Prog X) (values : List ℕ) → Keeps (IsOwnWord core) Any Q p → Q (fed s p values).core
+kept_left : {X : Type 0} (core : ℕ) (Q : X → Type 0) (s : ℕ) (p : Prog X) (values : List ℕ)
+    → Keeps (IsOwnWord core) Any Q p → Q (fed s p values).core
 kept_left core Q s (done x) values h = h
-kept_left core Q s (get word go_on) values h = kept_left core Q s (go_on (first values)) (others values) (h.1 (first values) tt)
+kept_left core Q s (get word go_on) values h =
+    kept_left core Q s (go_on (first values)) (others values) (h.1 (first values) tt)
 kept_left core Q s (set word value rest) values h = kept_left core Q s rest values h.2
 
 -- ---- the act
@@ -35,11 +42,16 @@ module _ (core : ℕ) where
   IsAt c = c.plain.site.core ≡ core
 
   gives_own : Gives (IsOwnWord core) Any IsAt
-  gives_own = gives_any (IsOwnWord core) IsAt (λ c word h below. inr (word, (below, ap (λ k. comm_word k word) h))) (λ c word h below. inl below)
+  gives_own = gives_any (IsOwnWord core) IsAt (λ c word h below. inr (word, (below, ap (λ k. comm_word k word) h)))
+      (λ c word h below. inl below)
 
   act_own : (u : ℕ) (c : Core) → IsAt c → Keeps (IsOwnWord core) Any IsAt (and_then (own u c) settled)
   act_own u c h = act_kept (IsOwnWord core) Any IsAt gives_own (steps_of_place (λ site base status. site.core ≡ core))
-      (record { stops = λ c fault cycle h. h; goes = λ c goal h placed. ap (λ (s : Site). s.core) (gone_site goal c) ∙ h }) u c h
+      (record {
+        stops = λ c fault cycle h. h;
+        goes = λ c goal h placed. ap (λ (s : Site). s.core) (gone_site goal c)
+            ∙ h;
+      }) u c h
 
 -- ---- the run
 
@@ -48,20 +60,24 @@ record HasStored (core : ℕ) (f : Followed) : Type 0 where
   place : f.run.core.plain.site.core ≡ core
   stores : Each (StoresOwn core) f.own
 
-has_stored : (n core : ℕ) (x : Core) (values : List ℕ) (t : ℕ) → x.plain.site.core ≡ core → HasStored core (followed n core x values t)
+has_stored : (n core : ℕ) (x : Core) (values : List ℕ) (t : ℕ) → x.plain.site.core ≡ core
+    → HasStored core (followed n core x values t)
 has_stored n core x values zero e = record { place = e; stores = tt }
 has_stored n core x values (suc t) e =
     let f : Followed = followed n core x values t in
     let m : Moment = record { cycle = t; told = f; bundles = [] } in
     let g : Followed = after_injection n core t (after_delivery n core t f) in
     let before : HasStored core f = has_stored n core x values t e in
-    let here : g.run.core.plain.site.core ≡ core = ap (λ (c : Core). c.plain.site.core) (interface_apart n core m) ∙ before.place in
+    let here : g.run.core.plain.site.core ≡ core =
+    ap (λ (c : Core). c.plain.site.core) (interface_apart n core m) ∙ before.place in
     let act = act_own core t g.run.core here in
     record {
       place = kept_left core (IsAt core) (stamp n core t 1) (and_then (own t g.run.core) settled) g.run.left act;
-      stores = each-append (StoresOwn core) f.own (fed (stamp n core t 1) (and_then (own t g.run.core) settled) g.run.left).ops before.stores
+      stores = each-append (StoresOwn core) f.own (fed (stamp n core t 1) (and_then (own t g.run.core) settled)
+          g.run.left).ops before.stores
           (kept_ops core (IsAt core) (stamp n core t 1) (and_then (own t g.run.core) settled) g.run.left act);
     }
 
-pub own_stores : (n core : ℕ) (x : Core) (values : List ℕ) (t : ℕ) → x.plain.site.core ≡ core → Each (StoresOwn core) (followed n core x values t).own
+pub own_stores : (n core : ℕ) (x : Core) (values : List ℕ) (t : ℕ) → x.plain.site.core ≡ core
+    → Each (StoresOwn core) (followed n core x values t).own
 own_stores n core x values t e = (has_stored n core x values t e).stores

@@ -19,13 +19,15 @@ leaves_map P Q f (done x) h = f x h
 leaves_map P Q f (get word go_on) h = λ value. leaves_map P Q f (go_on value) (h value)
 leaves_map P Q f (set word value rest) h = leaves_map P Q f rest h
 
-pub leaves_then : {X Y : Type 0} (P : X → Type 0) (Q : Y → Type 0) (f : X → Prog Y) → ((x : X) → P x → Leaves Q (f x)) → (p : Prog X) → Leaves P p → Leaves Q (and_then p f)
+pub leaves_then : {X Y : Type 0} (P : X → Type 0) (Q : Y → Type 0) (f : X → Prog Y) → ((x : X) → P x → Leaves Q (f x))
+    → (p : Prog X) → Leaves P p → Leaves Q (and_then p f)
 leaves_then P Q f next (done x) h = next x h
 leaves_then P Q f next (get word go_on) h = λ value. leaves_then P Q f next (go_on value) (h value)
 leaves_then P Q f next (set word value rest) h = leaves_then P Q f next rest h
 
 -- fed with values, a program leaves what it always leaves
-pub fed_leaves : {X : Type 0} (P : X → Type 0) (s : ℕ) (p : Prog X) (values : List ℕ) → Leaves P p → P (fed s p values).core
+pub fed_leaves : {X : Type 0} (P : X → Type 0) (s : ℕ) (p : Prog X) (values : List ℕ) → Leaves P p
+    → P (fed s p values).core
 fed_leaves P s (done x) values h = h
 fed_leaves P s (get word go_on) values h = fed_leaves P s (go_on (first values)) (others values) (h (first values))
 fed_leaves P s (set word value rest) values h = fed_leaves P s rest values h
@@ -33,7 +35,8 @@ fed_leaves P s (set word value rest) values h = fed_leaves P s rest values h
 -- and so does the task
 pub by_task_in_parts : (s : ℕ) (p : Prog Core) (f : Core → Prog Core) (t : Followed)
     → by_task (fed s (and_then p f) t.run.left) t
-    ≡ by_task (fed s (f (by_task (fed s p t.run.left) t).run.core) (by_task (fed s p t.run.left) t).run.left) (by_task (fed s p t.run.left) t)
+    ≡ by_task (fed s (f (by_task (fed s p t.run.left) t).run.core) (by_task (fed s p t.run.left) t).run.left) (by_task
+    (fed s p t.run.left) t)
 by_task_in_parts s p f t =
     let one : Fed Core = fed s p t.run.left in
     let two : Fed Core = fed s (f one.core) one.left in

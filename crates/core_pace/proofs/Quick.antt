@@ -23,21 +23,28 @@ module _ (n core : ℕ) where
       ap (λ k. freed n core (moved n core k m)) no_slots
 
   freed_later : (m : Moment) → (core_in m).plain.free ≡ suc m.cycle → freed n core m ≡ next_cycle n core m
-  freed_later m free = let one : (core_in m).plain.free - m.cycle ≡ 1 = omega (arith, free) in ap (λ d. waited n core d m) one
+  freed_later m free =
+      let one : (core_in m).plain.free - m.cycle ≡ 1 = omega (arith, free) in ap (λ d. waited n core d m) one
 
   pub freed_now : (m : Moment) → (core_in m).plain.free ≡ m.cycle → freed n core m ≡ m
-  freed_now m free = let none : (core_in m).plain.free - m.cycle ≡ 0 = omega (arith, free) in ap (λ d. waited n core d m) none
+  freed_now m free =
+      let none : (core_in m).plain.free - m.cycle ≡ 0 = omega (arith, free) in ap (λ d. waited n core d m) none
 
-  pub quick_next : (m : Moment) → (core_in (bundled n core m)).plain.transfer.words ≡ 0 → (core_in (bundled n core m)).plain.free ≡ suc m.cycle
-      → is_due_flow (core_in (bundled n core m)).plain.flow ≡ false → next n core m ≡ next_cycle n core (bundled n core m)
+  pub quick_next : (m : Moment) → (core_in (bundled n core m)).plain.transfer.words ≡ 0
+      → (core_in (bundled n core m)).plain.free ≡ suc m.cycle
+      → is_due_flow (core_in (bundled n core m)).plain.flow ≡ false → next n core m
+      ≡ next_cycle n core (bundled n core m)
   quick_next m none free not_due =
       let b : Moment = bundled n core m in
       let after : Moment = next_cycle n core b in
       let same = waited_same n core 1 b in
       let words : (core_in after).plain.transfer.words ≡ 0 = ap (λ (c : Core). c.plain.transfer.words) same ∙ none in
       let here : (core_in after).plain.free ≡ after.cycle = ap (λ (c : Core). c.plain.free) same ∙ free in
-      let still : is_due_flow (core_in after).plain.flow ≡ false = ap (λ (c : Core). is_due_flow c.plain.flow) same ∙ not_due in
-      let stays : landing after ≡ after = ap (λ c. record after { told = record after.told { run = record after.told.run { core = c } } }) (landed_same (core_in after) after.cycle still) in
+      let still : is_due_flow (core_in after).plain.flow ≡ false =
+      ap (λ (c : Core). is_due_flow c.plain.flow) same ∙ not_due in
+      let stays : landing after ≡ after =
+      ap (λ c. record after { told = record after.told { run = record after.told.run { core = c } } })
+      (landed_same (core_in after) after.cycle still) in
       ap (λ z. all_moved n core (landing z)) (nothing_moved b none ∙ freed_later b free)
       ∙ ap (all_moved n core) stays
       ∙ nothing_moved after words

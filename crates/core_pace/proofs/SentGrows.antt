@@ -31,12 +31,14 @@ begins_is_kept xs = record {
 }
 
 pub sendings_grow : (n core : ℕ) (x : Core) (values : List ℕ) (t d : ℕ)
-    → BeginsWith (followed n core x values (t + d)).run.core.seen.sendings (followed n core x values t).run.core.seen.sendings
+    → BeginsWith (followed n core x values (t + d)).run.core.seen.sendings (followed n core x values
+    t).run.core.seen.sendings
 sendings_grow n core x values t d =
     let xs : List Sending = (followed n core x values t).run.core.seen.sendings in
     kept_on (λ y sendings. BeginsWith sendings xs) (begins_is_kept xs) n core x values t d ([], sym (append-nil xs))
 
-pub own_grows : (n core : ℕ) (x : Core) (values : List ℕ) (t d : ℕ) → BeginsWith (followed n core x values (t + d)).own (followed n core x values t).own
+pub own_grows : (n core : ℕ) (x : Core) (values : List ℕ) (t d : ℕ) → BeginsWith (followed n core x values (t + d)).own
+    (followed n core x values t).own
 own_grows n core x values t zero =
     let here : t + 0 ≡ t = omega arith in
     ([], ap (λ u. (followed n core x values u).own) here ∙ sym (append-nil (followed n core x values t).own))
@@ -45,5 +47,8 @@ own_grows n core x values t (suc d) =
     let u : ℕ = t + d in
     let g : Followed = after_injection n core u (after_delivery n core u (followed n core x values u)) in
     let ops : List Operation = (fed (stamp n core u 1) (and_then (own u g.run.core) settled) g.run.left).ops in
-    let before = own_grows n core x values t d in
-    (before.0 ++ ops, ap (λ v. (followed n core x values v).own) next ∙ ap (λ l. l ++ ops) before.1 ∙ append_assoc (followed n core x values t).own before.0 ops)
+    let before = own_grows n core x values t d in (
+      before.0 ++ ops,
+      ap (λ v. (followed n core x values v).own) next ∙ ap (λ l. l ++ ops) before.1
+          ∙ append_assoc (followed n core x values t).own before.0 ops,
+    )

@@ -22,9 +22,12 @@ use Rattle.core_pace.proofs.Parts.{with_interface_left}
 pub record IsKept (F : Interface → List Sending → Type 0) : Type 0 where
   pub source : (x : Interface) (sendings : List Sending) (d word : ℕ) → F x sendings → F (with_source d word x) sendings
   pub target : (x : Interface) (sendings : List Sending) (d word : ℕ) → F x sendings → F (with_target d word x) sendings
-  pub start : (x : Interface) (sendings : List Sending) (s : Sending) (count : ℕ) → F x sendings → F (started s.target count x) (sendings ++ s ∷ [])
-  pub delivery : (x : Interface) (sendings : List Sending) (cycle : ℕ) → F x sendings → Leaves (λ i. F i sendings) (delivery cycle x)
-  pub injection : (x : Interface) (sendings : List Sending) (cycle : ℕ) → F x sendings → Leaves (λ i. F i sendings) (injection cycle x)
+  pub start : (x : Interface) (sendings : List Sending) (s : Sending) (count : ℕ) → F x sendings
+      → F (started s.target count x) (sendings ++ s ∷ [])
+  pub delivery : (x : Interface) (sendings : List Sending) (cycle : ℕ) → F x sendings
+      → Leaves (λ i. F i sendings) (delivery cycle x)
+  pub injection : (x : Interface) (sendings : List Sending) (cycle : ℕ) → F x sendings
+      → Leaves (λ i. F i sendings) (injection cycle x)
 
 module _ (F : Interface → List Sending → Type 0) (k : IsKept F) where
   -- it holds of a core
@@ -58,17 +61,23 @@ module _ (F : Interface → List Sending → Type 0) (k : IsKept F) where
   gone_fair _ c h = h
 
   act_fair : (u : ℕ) (c : Core) → Fair c → Leaves Fair (and_then (own u c) settled)
-  act_fair u c h = act_leaves Fair steps_fair (record { stops = λ c fault cycle h. h; goes = λ c goal h placed. gone_fair goal c h }) u c h
+  act_fair u c h = act_leaves Fair steps_fair (record {
+    stops = λ c fault cycle h. h;
+    goes = λ c goal h placed.
+        gone_fair goal c h;
+  }) u c h
 
   -- ---- the run
 
   -- the interface with which a core goes on
-  with_fair : (c : Core) (s : ℕ) (p : Prog Interface) (values : List ℕ) → Leaves (λ i. F i c.seen.sendings) p → Fair (fed s (and_then p (λ i. done (with_interface c i))) values).core
+  with_fair : (c : Core) (s : ℕ) (p : Prog Interface) (values : List ℕ) → Leaves (λ i. F i c.seen.sendings) p
+      → Fair (fed s (and_then p (λ i. done (with_interface c i))) values).core
   with_fair c s p values h =
       subst Fair (sym (with_interface_left c s p values)) (fed_leaves (λ i. F i c.seen.sendings) s p values h)
 
   -- in a run, from a cycle on
-  pub kept_on : (n core : ℕ) (x : Core) (values : List ℕ) (t d : ℕ) → Fair (followed n core x values t).run.core → Fair (followed n core x values (t + d)).run.core
+  pub kept_on : (n core : ℕ) (x : Core) (values : List ℕ) (t d : ℕ) → Fair (followed n core x values t).run.core
+      → Fair (followed n core x values (t + d)).run.core
   kept_on n core x values t zero h =
       let here : t + 0 ≡ t = omega arith in
       subst (λ u. Fair (followed n core x values u).run.core) (sym here) h
@@ -79,7 +88,9 @@ module _ (F : Interface → List Sending → Type 0) (k : IsKept F) where
       let c : Core = f.run.core in
       let f1 : Followed = after_delivery n core u f in
       let g : Followed = after_injection n core u f1 in
-      let came : Fair f1.run.core = with_fair c (stamp n core u 0) (delivery u c.plain.interface) f.run.left (k.delivery c.plain.interface c.seen.sendings u (kept_on n core x values t d h)) in
-      let sent : Fair g.run.core = with_fair f1.run.core (stamp n core u 1) (injection u f1.run.core.plain.interface) f1.run.left (k.injection f1.run.core.plain.interface f1.run.core.seen.sendings u came) in
+      let came : Fair f1.run.core = with_fair c (stamp n core u 0) (delivery u c.plain.interface) f.run.left
+      (k.delivery c.plain.interface c.seen.sendings u (kept_on n core x values t d h)) in
+      let sent : Fair g.run.core = with_fair f1.run.core (stamp n core u 1) (injection u f1.run.core.plain.interface)
+      f1.run.left (k.injection f1.run.core.plain.interface f1.run.core.seen.sendings u came) in
       subst (λ v. Fair (followed n core x values v).run.core) (sym next)
       (fed_leaves Fair (stamp n core u 1) (and_then (own u g.run.core) settled) g.run.left (act_fair u g.run.core sent))

@@ -24,8 +24,13 @@ use Rattle.core_pace.proofs.Unsent.{forgets_act}
 delivery_leaves : (cycle : ℕ) (x : Interface) → Leaves (λ i. no_packets i ≡ no_packets x) (delivery cycle x)
 delivery_leaves cycle x = by (comes x cycle)
   where
-    by : (b : Bool) → Leaves (λ i. no_packets i ≡ no_packets x) (elim b as (λ _. Prog Interface) [ true ↦ written (filter (λ p. p.due == cycle) x.under_way) (done (delivered cycle x)) | false ↦ done x ])
-    by true = leaves_written (λ i. no_packets i ≡ no_packets x) (filter (λ p. p.due == cycle) x.under_way) (done (delivered cycle x)) refl
+    by : (b : Bool) → Leaves (λ i. no_packets i ≡ no_packets x) (elim b as (λ _. Prog Interface) [
+      | true ↦ written
+          (filter (λ p. p.due == cycle) x.under_way) (done (delivered cycle x))
+      | false ↦ done x
+    ])
+    by true = leaves_written (λ i. no_packets i ≡ no_packets x) (filter (λ p. p.due == cycle) x.under_way)
+        (done (delivered cycle x)) refl
     by false = refl
 
 -- an injection counts down what is left, whatever it reads
@@ -38,22 +43,36 @@ injection_leaves cycle x = by (sends x cycle)
     word : ℕ
     word = comm_word x.core (port_to x (target_at x cycle)).channel.source
 
-    by : (b : Bool) → Leaves (λ i. no_packets i ≡ elim b as (λ _. Interface) [ true ↦ no_packets (injected cycle [] x) | false ↦ no_packets x ])
-        (elim b as (λ _. Prog Interface) [ true ↦ gets (packet_size left) word (λ values. done (injected cycle values x)) | false ↦ done x ])
-    by true = leaves_gets (λ i. no_packets i ≡ no_packets (injected cycle [] x)) (packet_size left) word (λ values. done (injected cycle values x)) (λ values. refl)
+    by : (b : Bool) → Leaves (λ i. no_packets i ≡ elim b as (λ _. Interface) [
+      | true ↦ no_packets
+          (injected cycle [] x)
+      | false ↦ no_packets x
+    ])
+        (elim b as (λ _. Prog Interface) [
+          | true ↦ gets (packet_size left) word
+              (λ values. done (injected cycle values x))
+          | false ↦ done x
+        ])
+    by true = leaves_gets (λ i. no_packets i ≡ no_packets (injected cycle [] x)) (packet_size left) word
+        (λ values. done (injected cycle values x)) (λ values. refl)
     by false = refl
 
 forgets_count : (cycle : ℕ) (x : Interface) → counted_down cycle (no_packets x) ≡ counted_down cycle x
 forgets_count cycle x = by (sends x cycle)
   where
-    by : (b : Bool) → elim b as (λ _. Interface) [ true ↦ no_packets (injected cycle [] (no_packets x)) | false ↦ no_packets (no_packets x) ]
+    by : (b : Bool) → elim b as (λ _. Interface) [
+      | true ↦ no_packets (injected cycle [] (no_packets x))
+      | false ↦
+          no_packets (no_packets x)
+    ]
         ≡ elim b as (λ _. Interface) [ true ↦ no_packets (injected cycle [] x) | false ↦ no_packets x ]
     by true = refl
     by false = refl
 
 module _ (n core : ℕ) where
   -- the interface's part of a cycle is what the task can tell of it
-  interface_heard : (t : ℕ) (f : Followed) → unheard t (unsent f.run.core) ≡ unsent (after_injection n core t (after_delivery n core t f)).run.core
+  interface_heard : (t : ℕ) (f : Followed) → unheard t (unsent f.run.core)
+      ≡ unsent (after_injection n core t (after_delivery n core t f)).run.core
   interface_heard t f =
       let c : Core = f.run.core in
       let f1 : Followed = after_delivery n core t f in
@@ -61,17 +80,29 @@ module _ (n core : ℕ) where
       let d : Core = (after_injection n core t f1).run.core in
       let x1 : Interface = (fed (stamp n core t 0) (delivery t c.plain.interface) f.run.left).core in
       let x2 : Interface = (fed (stamp n core t 1) (injection t c1.plain.interface) f1.run.left).core in
-      let one : c1 ≡ with_interface c x1 = with_interface_left c (stamp n core t 0) (delivery t c.plain.interface) f.run.left in
-      let two : d ≡ with_interface c1 x2 = with_interface_left c1 (stamp n core t 1) (injection t c1.plain.interface) f1.run.left in
-      let came : no_packets x1 ≡ no_packets c.plain.interface = fed_leaves (λ i. no_packets i ≡ no_packets c.plain.interface) (stamp n core t 0) (delivery t c.plain.interface) f.run.left (delivery_leaves t c.plain.interface) in
-      let sent : no_packets x2 ≡ counted_down t c1.plain.interface = fed_leaves (λ i. no_packets i ≡ counted_down t c1.plain.interface) (stamp n core t 1) (injection t c1.plain.interface) f1.run.left (injection_leaves t c1.plain.interface) in
+      let one : c1 ≡ with_interface c x1 =
+      with_interface_left c (stamp n core t 0) (delivery t c.plain.interface) f.run.left in
+      let two : d ≡ with_interface c1 x2 =
+      with_interface_left c1 (stamp n core t 1) (injection t c1.plain.interface) f1.run.left in
+      let came : no_packets x1 ≡ no_packets c.plain.interface = fed_leaves (λ i. no_packets i
+      ≡ no_packets c.plain.interface) (stamp n core t 0) (delivery t c.plain.interface) f.run.left
+      (delivery_leaves t c.plain.interface) in
+      let sent : no_packets x2 ≡ counted_down t c1.plain.interface =
+      fed_leaves (λ i. no_packets i ≡ counted_down t c1.plain.interface) (stamp n core t 1)
+      (injection t c1.plain.interface) f1.run.left (injection_leaves t c1.plain.interface) in
       let counts : counted_down t (no_packets c.plain.interface) ≡ no_packets x2 =
-      ap (counted_down t) (sym came) ∙ forgets_count t x1 ∙ ap (λ (z : Core). counted_down t z.plain.interface) (sym one) ∙ sym sent in
+      ap (counted_down t) (sym came) ∙ forgets_count t x1 ∙ ap (λ (z : Core). counted_down t z.plain.interface)
+      (sym one) ∙ sym sent in
       ap (with_interface c) counts
       ∙ sym (ap unsent two ∙ ap (λ z. with_interface z (no_packets x2)) one)
 
-  pub task_is_apart : (x : Core) (values : List ℕ) (t : ℕ) (more : List ℕ) → task_apart n core x (loads (followed n core x values t).own ++ more) t
-      ≡ record { core = unsent (followed n core x values t).run.core; left = more; made = (followed n core x values t).own }
+  pub task_is_apart : (x : Core) (values : List ℕ) (t : ℕ) (more : List ℕ)
+      → task_apart n core x (loads (followed n core x values t).own ++ more) t
+      ≡ record {
+        core = unsent (followed n core x values t).run.core;
+        left = more;
+        made = (followed n core x values t).own;
+      }
   task_is_apart x values zero more = refl
   task_is_apart x values (suc t) more =
       let f : Followed = followed n core x values t in
@@ -80,10 +111,16 @@ module _ (n core : ℕ) where
       let act : Prog Core = and_then (own t g.run.core) settled in
       let heard : Fed Core = fed s act g.run.left in
       let told : List ℕ = loads heard.ops ++ more in
-      let forgets : fed s (and_then act (λ d. done (unsent d))) told ≡ record { core = unsent heard.core; left = more; ops = heard.ops ++ [] } =
+      let forgets : fed s (and_then act (λ d. done (unsent d))) told ≡ record {
+        core = unsent heard.core;
+        left = more;
+        ops = heard.ops ++ [];
+      } =
       fed-then s act (λ d. done (unsent d)) told
-      ∙ ap (λ (p : Fed Core). record { core = unsent p.core; left = p.left; ops = p.ops ++ [] }) (fed_fed s act g.run.left more) in
-      ap (λ l. task_apart n core x l (suc t)) (ap (λ l. l ++ more) (loads-append f.own heard.ops) ∙ append_assoc (loads f.own) (loads heard.ops) more)
+      ∙ ap (λ (p : Fed Core). record { core = unsent p.core; left = p.left; ops = p.ops ++ [] }) (fed_fed s act
+      g.run.left more) in
+      ap (λ l. task_apart n core x l (suc t)) (ap (λ l. l ++ more) (loads-append f.own heard.ops)
+      ∙ append_assoc (loads f.own) (loads heard.ops) more)
       ∙ ap (task_turn n core t) (task_is_apart x values t told)
       ∙ ap (λ c. gone_on (fed s (and_then (own t c) settled) told) f.own) (interface_heard t f)
       ∙ ap (λ p. gone_on (fed s p told) f.own) (forgets_act t g.run.core)
@@ -91,10 +128,21 @@ module _ (n core : ℕ) where
       ∙ ap (λ l. record { core = unsent heard.core; left = more; made = f.own ++ l }) (append-nil heard.ops)
 
   -- so the task's own loads determine all but the packets
-  pub task_determined : (x : Core) (values values' : List ℕ) (t : ℕ) → loads (followed n core x values t).own ≡ loads (followed n core x values' t).own
-      → (unsent (followed n core x values t).run.core ≡ unsent (followed n core x values' t).run.core) × ((followed n core x values t).own ≡ (followed n core x values' t).own)
+  pub task_determined : (x : Core) (values values' : List ℕ) (t : ℕ) → loads (followed n core x values t).own
+      ≡ loads (followed n core x values' t).own
+      → (unsent (followed n core x values t).run.core ≡ unsent (followed n core x values' t).run.core)
+      × ((followed n core x values t).own ≡ (followed n core x values' t).own)
   task_determined x values values' t same =
-      let both : ◌≡◌ {A = Alone Core} (record { core = unsent (followed n core x values t).run.core; left = []; made = (followed n core x values t).own })
-      (record { core = unsent (followed n core x values' t).run.core; left = []; made = (followed n core x values' t).own }) =
-      sym (task_is_apart x values t []) ∙ ap (λ l. task_apart n core x (l ++ []) t) same ∙ task_is_apart x values' t [] in
+      let both : ◌≡◌ {A = Alone Core} (record {
+        core = unsent (followed n core x values t).run.core;
+        left = [];
+        made = (followed n core x values t).own;
+      })
+      (record {
+        core = unsent (followed n core x values' t).run.core;
+        left = [];
+        made = (followed n core x values' t).own;
+      }) =
+      sym (task_is_apart x values t []) ∙ ap (λ l. task_apart n core x (l ++ []) t) same
+      ∙ task_is_apart x values' t [] in
       (ap (λ (a : Alone Core). a.core) both, ap (λ (a : Alone Core). a.made) both)

@@ -60,68 +60,88 @@ leaves_all P h (set word value rest) = leaves_all P h rest
 
 -- ---- cells
 
-forgets_reading : (place : Option Cell) (c : Core) (go_on go_on' : ℕ → Prog Acted) → ((word : ℕ) → Forgets (go_on' word) (go_on word)) → Forgets (reading place (unsent c).plain go_on') (reading place c.plain go_on)
+forgets_reading : (place : Option Cell) (c : Core) (go_on go_on' : ℕ → Prog Acted)
+    → ((word : ℕ) → Forgets (go_on' word) (go_on word)) → Forgets (reading place (unsent c).plain go_on')
+    (reading place c.plain go_on)
 forgets_reading None c go_on go_on' h = h 0
 forgets_reading (Some (cell.Scratch word)) c go_on go_on' h = h (c.plain.scratch word)
 forgets_reading (Some (cell.Private word)) c go_on go_on' h = h (c.plain.private word)
-forgets_reading (Some (cell.Comm word)) c go_on go_on' h = λ i. get (comm_word c.plain.site.core word) (λ value. h value i)
+forgets_reading (Some (cell.Comm word)) c go_on go_on' h =
+    λ i. get (comm_word c.plain.site.core word) (λ value. h value i)
 forgets_reading (Some (cell.Shared word)) c go_on go_on' h = λ i. get word (λ value. h value i)
 forgets_reading (Some (cell.Port core register)) c go_on go_on' h = h (port_to c.plain.interface core).channel.left
 
-forgets_line : (place : Option Cell) (c : Core) (go_on go_on' : List ℕ → Prog Acted) → ((words : List ℕ) → Forgets (go_on' words) (go_on words)) → Forgets (reading_line place (unsent c).plain go_on') (reading_line place c.plain go_on)
+forgets_line : (place : Option Cell) (c : Core) (go_on go_on' : List ℕ → Prog Acted)
+    → ((words : List ℕ) → Forgets (go_on' words) (go_on words)) → Forgets (reading_line place (unsent c).plain go_on')
+    (reading_line place c.plain go_on)
 forgets_line (Some (cell.Private word)) c go_on go_on' h =
     h (c.plain.private word ∷ c.plain.private (word + 1) ∷ c.plain.private (word + 2) ∷ c.plain.private (word + 3) ∷ [])
-forgets_line (Some (cell.Shared word)) c go_on go_on' h = λ i. get word (λ a. get (word + 1) (λ b. get (word + 1 + 1) (λ d. get (word + 1 + 1 + 1) (λ e. h (a ∷ b ∷ d ∷ e ∷ []) i))))
+forgets_line (Some (cell.Shared word)) c go_on go_on' h =
+    λ i. get word
+    (λ a. get (word + 1) (λ b. get (word + 1 + 1) (λ d. get (word + 1 + 1 + 1) (λ e. h (a ∷ b ∷ d ∷ e ∷ []) i))))
 forgets_line _ c go_on go_on' h = h no_line
 
-forgets_storing : (word : ℕ) (width : StoreWidth) (address value : ℕ) (c : Core) → Forgets (storing word width address value (unsent c)) (storing word width address value c)
+forgets_storing : (word : ℕ) (width : StoreWidth) (address value : ℕ) (c : Core)
+    → Forgets (storing word width address value (unsent c)) (storing word width address value c)
 forgets_storing word store.Word address value c = refl
 forgets_storing word store.Half address value c = refl
 forgets_storing word store.Byte address value c = refl
 
 -- a start does not look at the packets
-forgets_start : (target value : ℕ) (x : Interface) → started target value (no_packets x) ≡ no_packets (started target value x)
+forgets_start : (target value : ℕ) (x : Interface) → started target value (no_packets x)
+    ≡ no_packets (started target value x)
 forgets_start target value x = by (answer_to (port_to x target) value)
   where
-    by : (answer : Started) → started_by answer target value (no_packets x) ≡ no_packets (started_by answer target value x)
+    by : (answer : Started) → started_by answer target value (no_packets x)
+        ≡ no_packets (started_by answer target value x)
     by Begun = refl
     by Dropped = refl
     by Refused = refl
 
-forgets_port : (target register value : ℕ) (c : Core) → port_set target register value (unsent c) ≡ unsent (port_set target register value c)
+forgets_port : (target register value : ℕ) (c : Core) → port_set target register value (unsent c)
+    ≡ unsent (port_set target register value c)
 forgets_port target register value c = by (register == 0) (register == 4)
   where
     by : (b d : Bool) → port_by b d target value (unsent c) ≡ unsent (port_by b d target value c)
     by true d = refl
     by false true = refl
     by false false =
-        ap (λ (i : Interface). let z : Core = with_start target value c in record z { plain = record z.plain { interface = i } }) (forgets_start target value c.plain.interface)
+        ap (λ (i : Interface). let z : Core = with_start target value c in
+        record z { plain = record z.plain { interface = i } }) (forgets_start target value c.plain.interface)
 
-forgets_writing : (place : Option Cell) (width : StoreWidth) (address value : ℕ) (c : Core) → Forgets (writing place width address value (unsent c)) (writing place width address value c)
-forgets_writing (Some (cell.Comm word)) width address value c = forgets_storing (comm_word c.plain.site.core word) width address value c
+forgets_writing : (place : Option Cell) (width : StoreWidth) (address value : ℕ) (c : Core)
+    → Forgets (writing place width address value (unsent c)) (writing place width address value c)
+forgets_writing (Some (cell.Comm word)) width address value c =
+    forgets_storing (comm_word c.plain.site.core word) width address value c
 forgets_writing (Some (cell.Shared word)) width address value c = forgets_storing word width address value c
 forgets_writing (Some (cell.Port target register)) width address value c = ap now (forgets_port target register value c)
 forgets_writing _ width address value c = refl
 
 -- ---- a bundle
 
-forgets_moves : (t : Transfer) (u : ℕ) (c : Core) → with_plain (moves t u) (unsent c) ≡ unsent (with_plain (moves t u) c)
+forgets_moves : (t : Transfer) (u : ℕ) (c : Core) → with_plain (moves t u) (unsent c)
+    ≡ unsent (with_plain (moves t u) c)
 forgets_moves t u c = by (t.words == 0)
   where
-    by : (b : Bool) → with_plain (λ x. elim b as (λ _. Plain) [ true ↦ ends u x | false ↦ record x { transfer = t } ]) (unsent c)
+    by : (b : Bool) → with_plain (λ x. elim b as (λ _. Plain) [ true ↦ ends u x | false ↦ record x { transfer = t } ])
+        (unsent c)
         ≡ unsent (with_plain (λ x. elim b as (λ _. Plain) [ true ↦ ends u x | false ↦ record x { transfer = t } ]) c)
     by true = refl
     by false = refl
 
-forgets_stacked : (func : StackFunc) (count u : ℕ) (c : Core) → with_plain (stacked func count u) (unsent c) ≡ unsent (with_plain (stacked func count u) c)
-forgets_stacked Sres count u c = forgets_moves (writes (length (spilled count c.plain.stack)) then_on.Nothing) u (with_plain (λ x. record x {
-  stack = reserved count x.stack;
-  private = with_words (reserved count x.stack).ss (spilled count x.stack) x.private;
-}) c)
-forgets_stacked Sens count u c = forgets_moves (reads (missing count c.plain.stack) then_on.Nothing) u (with_plain (λ x. record x { stack = refilled count x.private x.stack }) c)
+forgets_stacked : (func : StackFunc) (count u : ℕ) (c : Core) → with_plain (stacked func count u) (unsent c)
+    ≡ unsent (with_plain (stacked func count u) c)
+forgets_stacked Sres count u c =
+    forgets_moves (writes (length (spilled count c.plain.stack)) then_on.Nothing) u (with_plain (λ x. record x {
+      stack = reserved count x.stack;
+      private = with_words (reserved count x.stack).ss (spilled count x.stack) x.private;
+    }) c)
+forgets_stacked Sens count u c = forgets_moves (reads (missing count c.plain.stack) then_on.Nothing) u
+    (with_plain (λ x. record x { stack = refilled count x.private x.stack }) c)
 forgets_stacked Sfree count u c = refl
 
-forgets_cached : (rd : ℕ) (width : Width) (address u : ℕ) (c : Core) → cache_loaded rd width address u (unsent c) ≡ unsent (cache_loaded rd width address u c)
+forgets_cached : (rd : ℕ) (width : Width) (address u : ℕ) (c : Core) → cache_loaded rd width address u (unsent c)
+    ≡ unsent (cache_loaded rd width address u c)
 forgets_cached rd width address u c = by (cache.cached_word c.seen.cached address)
   where
     loaded_by : Option ℕ → Core → Core
@@ -139,10 +159,12 @@ forgets_cached rd width address u c = by (cache.cached_word c.seen.cached addres
 
 forgets_answered : (asked : Effect) (u : ℕ) (c : Core) → Forgets (answered asked u (unsent c)) (answered asked u c)
 forgets_answered (effect.Load mem.L width rd address) u c =
-    forgets_reading (cell_of Local address) c (λ word. now (with_plain (λ x. ends u (with_value rd width address word x)) c))
+    forgets_reading (cell_of Local address) c
+    (λ word. now (with_plain (λ x. ends u (with_value rd width address word x)) c))
     (λ word. now (with_plain (λ x. ends u (with_value rd width address word x)) (unsent c))) (λ word. refl)
 forgets_answered (effect.Load mem.C width rd address) u c = ap now (forgets_cached rd width address u c)
-forgets_answered (effect.Store mem.L width address value) u c = forgets_writing (cell_of Local address) width address value (with_plain (ends u) c)
+forgets_answered (effect.Store mem.L width address value) u c =
+    forgets_writing (cell_of Local address) width address value (with_plain (ends u) c)
 forgets_answered (effect.StackOp func count) u c = ap now (forgets_stacked func count u c)
 forgets_answered _ u c = refl
 
@@ -173,7 +195,11 @@ forgets_done (Found b words) u c =
 -- ---- a transaction
 
 forgets_stored : (kept : Bool) (width : StoreWidth) (address value u : ℕ) (c : Core)
-    → ◌≡◌ {A = Core} (record { plain = moved u (unsent c).plain; seen = with_store kept width address value (counted u (unsent c)).seen })
+    → ◌≡◌ {A = Core} (record {
+      plain = moved u (unsent c).plain;
+      seen = with_store kept width address value
+          (counted u (unsent c)).seen;
+    })
     (unsent (record { plain = moved u c.plain; seen = with_store kept width address value (counted u c).seen }))
 forgets_stored true width address value u c = refl
 forgets_stored false width address value u c = refl
@@ -185,19 +211,28 @@ forgets_transaction u c = by c.plain.transfer.then
     by : (moved_on : Then) → Forgets (transaction_then moved_on u (unsent c)) (transaction_then moved_on u c)
     by then_on.Nothing = refl
     by (then_on.Load rd width address) =
-        forgets_reading (cell_of Main address) c (λ word. now (with_plain (with_value rd width address word) (counted u c)))
+        forgets_reading (cell_of Main address) c (λ word. now (with_plain (with_value rd width address word)
+        (counted u c)))
         (λ word. now (with_plain (with_value rd width address word) (counted u (unsent c)))) (λ word. refl)
     by (then_on.Line rd width address) =
-        forgets_line (cell_of Main (line_address address)) c (λ words. now (line_taken rd width address words (counted u c)))
+        forgets_line (cell_of Main (line_address address)) c
+        (λ words. now (line_taken rd width address words (counted u c)))
         (λ words. now (line_taken rd width address words (counted u (unsent c)))) (λ words. refl)
     by (then_on.Store kept width address value) =
         ap (writing (cell_of Main address) width address value) (forgets_stored kept width address value u c)
-        ∙ forgets_writing (cell_of Main address) width address value (record { plain = moved u c.plain; seen = with_store kept width address value (counted u c).seen })
+        ∙ forgets_writing (cell_of Main address) width address value (record {
+          plain = moved u c.plain;
+          seen = with_store kept width address value (counted u c).seen;
+        })
 
 forgets_slot : (u : ℕ) (y : Acted) → Forgets (slot_step u (unsent_act y)) (slot_step u y)
 forgets_slot u y = by (is_due u y.core.plain)
   where
-    by : (b : Bool) → Forgets (elim b as (λ _. Prog Acted) [ true ↦ transaction u (unsent y.core) | false ↦ done (unsent_act y) ])
+    by : (b : Bool) → Forgets (elim b as (λ _. Prog Acted) [
+      | true ↦ transaction u (unsent y.core)
+      | false ↦ done
+          (unsent_act y)
+    ])
         (elim b as (λ _. Prog Acted) [ true ↦ transaction u y.core | false ↦ done y ])
     by true = forgets_transaction u y.core
     by false = refl
@@ -207,26 +242,46 @@ forgets_slot u y = by (is_due u y.core.plain)
 forgets_taken : (u : ℕ) (goal : Goal) (c : Core) → taken u goal (unsent c) ≡ unsent (taken u goal c)
 forgets_taken u (Within offset) c = by (is_placed (Within offset) c.plain)
   where
-    by : (b : Bool) → elim b as (λ _. Core) [ true ↦ gone (Within offset) (unsent c) | false ↦ with_plain (stopped trap.Flow u) (unsent c) ]
+    by : (b : Bool) → elim b as (λ _. Core) [
+      | true ↦ gone (Within offset) (unsent c)
+      | false ↦ with_plain
+          (stopped trap.Flow u) (unsent c)
+    ]
         ≡ unsent (elim b as (λ _. Core) [ true ↦ gone (Within offset) c | false ↦ with_plain (stopped trap.Flow u) c ])
     by true = refl
     by false = refl
 forgets_taken u (Call target) c = by (is_placed (Call target) c.plain)
   where
-    by : (b : Bool) → elim b as (λ _. Core) [ true ↦ gone (Call target) (unsent c) | false ↦ with_plain (stopped trap.Flow u) (unsent c) ]
+    by : (b : Bool) → elim b as (λ _. Core) [
+      | true ↦ gone (Call target) (unsent c)
+      | false ↦ with_plain
+          (stopped trap.Flow u) (unsent c)
+    ]
         ≡ unsent (elim b as (λ _. Core) [ true ↦ gone (Call target) c | false ↦ with_plain (stopped trap.Flow u) c ])
     by true = refl
     by false = refl
 forgets_taken u (Fill target) c = by (is_placed (Fill target) c.plain)
   where
-    by : (b : Bool) → elim b as (λ _. Core) [ true ↦ gone (Fill target) (unsent c) | false ↦ with_plain (stopped trap.Flow u) (unsent c) ]
+    by : (b : Bool) → elim b as (λ _. Core) [
+      | true ↦ gone (Fill target) (unsent c)
+      | false ↦ with_plain
+          (stopped trap.Flow u) (unsent c)
+    ]
         ≡ unsent (elim b as (λ _. Core) [ true ↦ gone (Fill target) c | false ↦ with_plain (stopped trap.Flow u) c ])
     by true = refl
     by false = refl
 forgets_taken u (Return base offset) c = by (is_placed (Return base offset) c.plain)
   where
-    by : (b : Bool) → elim b as (λ _. Core) [ true ↦ gone (Return base offset) (unsent c) | false ↦ with_plain (stopped trap.Flow u) (unsent c) ]
-        ≡ unsent (elim b as (λ _. Core) [ true ↦ gone (Return base offset) c | false ↦ with_plain (stopped trap.Flow u) c ])
+    by : (b : Bool) → elim b as (λ _. Core) [
+      | true ↦ gone (Return base offset) (unsent c)
+      | false ↦ with_plain
+          (stopped trap.Flow u) (unsent c)
+    ]
+        ≡ unsent (elim b as (λ _. Core) [
+          | true ↦ gone (Return base offset) c
+          | false ↦ with_plain
+              (stopped trap.Flow u) c
+        ])
     by true = refl
     by false = refl
 
@@ -235,9 +290,14 @@ unfolding flowed
 forgets_flowed u c = by_free (is_free u c.plain)
   where
     flow_by : Option Flow → Core → Core
-    flow_by flow z = elim flow as (λ _. Core) [ None ↦ z | Some f ↦ elim (f.slots == 0) as (λ _. Core) [ true ↦ taken u f.goal z | false ↦ z ] ]
+    flow_by flow z = elim flow as (λ _. Core) [
+      | None ↦ z
+      | Some f ↦ elim (f.slots == 0) as (λ _. Core)
+          [ true ↦ taken u f.goal z | false ↦ z ]
+    ]
 
-    by_slots : (f : Flow) (b : Bool) → elim b as (λ _. Core) [ true ↦ taken u f.goal (unsent c) | false ↦ unsent c ] ≡ unsent (elim b as (λ _. Core) [ true ↦ taken u f.goal c | false ↦ c ])
+    by_slots : (f : Flow) (b : Bool) → elim b as (λ _. Core) [ true ↦ taken u f.goal (unsent c) | false ↦ unsent c ]
+        ≡ unsent (elim b as (λ _. Core) [ true ↦ taken u f.goal c | false ↦ c ])
     by_slots f true = forgets_taken u f.goal c
     by_slots f false = refl
 
@@ -245,7 +305,8 @@ forgets_flowed u c = by_free (is_free u c.plain)
     by_flow None = refl
     by_flow (Some f) = by_slots f (f.slots == 0)
 
-    by_free : (b : Bool) → elim b as (λ _. Core) [ true ↦ flow_by c.plain.flow (unsent c) | false ↦ unsent c ] ≡ unsent (elim b as (λ _. Core) [ true ↦ flow_by c.plain.flow c | false ↦ c ])
+    by_free : (b : Bool) → elim b as (λ _. Core) [ true ↦ flow_by c.plain.flow (unsent c) | false ↦ unsent c ]
+        ≡ unsent (elim b as (λ _. Core) [ true ↦ flow_by c.plain.flow c | false ↦ c ])
     by_free true = by_flow c.plain.flow
     by_free false = refl
 
@@ -254,32 +315,45 @@ forgets_flowed u c = by_free (is_free u c.plain)
 forgets_step : (u : ℕ) (c : Core) → Forgets (bundle_step u (unsent c)) (bundle_step u c)
 forgets_step u c = by (is_free u c.plain)
   where
-    by : (b : Bool) → Forgets (elim b as (λ _. Prog Acted) [ true ↦ bundle u (unsent c) | false ↦ now (unsent c) ]) (elim b as (λ _. Prog Acted) [ true ↦ bundle u c | false ↦ now c ])
+    by : (b : Bool) → Forgets (elim b as (λ _. Prog Acted) [ true ↦ bundle u (unsent c) | false ↦ now (unsent c) ])
+        (elim b as (λ _. Prog Acted) [ true ↦ bundle u c | false ↦ now c ])
     by true = forgets_done _ u c
     by false = refl
 
 forgets_if : (u : ℕ) (c : Core) → Forgets (if_running (bundle_step u) (unsent c)) (if_running (bundle_step u) c)
 forgets_if u c = by (is_running c.plain)
   where
-    by : (b : Bool) → Forgets (elim b as (λ _. Prog Acted) [ true ↦ bundle_step u (unsent c) | false ↦ now (unsent c) ]) (elim b as (λ _. Prog Acted) [ true ↦ bundle_step u c | false ↦ now c ])
+    by : (b : Bool) → Forgets (elim b as (λ _. Prog Acted) [ true ↦ bundle_step u (unsent c) | false ↦ now (unsent c) ])
+        (elim b as (λ _. Prog Acted) [ true ↦ bundle_step u c | false ↦ now c ])
     by true = forgets_step u c
     by false = refl
 
-forgets_both : (u : ℕ) (c : Core) → Forgets (and_then (if_running (bundle_step u) (flowed u (unsent c))) (slot_step u)) (and_then (if_running (bundle_step u) (flowed u c)) (slot_step u))
+forgets_both : (u : ℕ) (c : Core) → Forgets (and_then (if_running (bundle_step u) (flowed u (unsent c))) (slot_step u))
+    (and_then (if_running (bundle_step u) (flowed u c)) (slot_step u))
 forgets_both u c =
     let first : Prog Acted = if_running (bundle_step u) (flowed u c) in
     ap (λ d. and_then (if_running (bundle_step u) d) (slot_step u)) (forgets_flowed u c)
     ∙ ap (λ p. and_then p (slot_step u)) (forgets_if u (flowed u c))
     ∙ in_line first (λ y. done (unsent_act y)) (slot_step u)
     ∙ then_same (λ y. slot_step u (unsent_act y)) (λ y. and_then (slot_step u y) (λ z. done (unsent_act z))) first
-    (leaves_all (λ y. slot_step u (unsent_act y) ≡ and_then (slot_step u y) (λ z. done (unsent_act z))) (forgets_slot u) first)
+    (leaves_all (λ y. slot_step u (unsent_act y) ≡ and_then (slot_step u y) (λ z. done (unsent_act z)))
+    (forgets_slot u) first)
     ∙ sym (in_line first (slot_step u) (λ z. done (unsent_act z)))
 
 pub forgets_own : (u : ℕ) (c : Core) → Forgets (own u (unsent c)) (own u c)
 forgets_own u c = by (is_running c.plain)
   where
-    by : (b : Bool) → Forgets (elim b as (λ _. Prog Acted) [ true ↦ and_then (if_running (bundle_step u) (flowed u (unsent c))) (slot_step u) | false ↦ now (unsent c) ])
-        (elim b as (λ _. Prog Acted) [ true ↦ and_then (if_running (bundle_step u) (flowed u c)) (slot_step u) | false ↦ now c ])
+    by : (b : Bool)
+        → Forgets (elim b as (λ _. Prog Acted) [
+          | true ↦ and_then (if_running (bundle_step u) (flowed u (unsent c)))
+              (slot_step u)
+          | false ↦ now (unsent c)
+        ])
+        (elim b as (λ _. Prog Acted) [
+          | true ↦ and_then (if_running (bundle_step u) (flowed u c))
+              (slot_step u)
+          | false ↦ now c
+        ])
     by true = forgets_both u c
     by false = refl
 
@@ -287,12 +361,14 @@ forgets_own u c = by (is_running c.plain)
 settled_forgets : (y : Acted) → settled (unsent_act y) ≡ and_then (settled y) (λ d. done (unsent d))
 settled_forgets y = by y.pending_store
   where
-    by : (pending_store : Option PendingStore) → settled (record { core = unsent y.core; pending_store = pending_store })
+    by : (pending_store : Option PendingStore)
+        → settled (record { core = unsent y.core; pending_store = pending_store })
         ≡ and_then (settled (record { core = y.core; pending_store = pending_store })) (λ d. done (unsent d))
     by None = refl
     by (Some o) = refl
 
-pub forgets_act : (u : ℕ) (c : Core) → and_then (own u (unsent c)) settled ≡ and_then (and_then (own u c) settled) (λ d. done (unsent d))
+pub forgets_act : (u : ℕ) (c : Core) → and_then (own u (unsent c)) settled ≡ and_then (and_then (own u c) settled) (λ d.
+    done (unsent d))
 forgets_act u c =
     ap (λ p. and_then p settled) (forgets_own u c)
     ∙ in_line (own u c) (λ y. done (unsent_act y)) settled

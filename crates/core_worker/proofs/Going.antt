@@ -20,7 +20,8 @@ use Rattle.shared_order.proofs.Lists.{each_rest}
 -- ---- later than later
 
 -- what is later than a later one is later
-pub both : (limit limit' : ℕ) (k k' k'' : Cpu) (v v' v'' : View) → limit' ≡ limit → GoesOnAs limit k v k' v' → GoesOnAs limit' k' v' k'' v'' → GoesOnAs limit k v k'' v''
+pub both : (limit limit' : ℕ) (k k' k'' : Cpu) (v v' v'' : View) → limit' ≡ limit → GoesOnAs limit k v k' v'
+    → GoesOnAs limit' k' v' k'' v'' → GoesOnAs limit k v k'' v''
 both limit limit' k k' k'' v v' v'' same one two =
     let two' : GoesOnAs limit k' v' k'' v'' = subst (λ l. GoesOnAs l k' v' k'' v'') same two in
     record {
@@ -44,7 +45,8 @@ looks_kept v v' one = ap (λ u. (own u).looks) one
 
 -- ---- looks change nothing that a worker keeps
 
-module _ (limit reached : ℕ) (ended : Bool) (k : Cpu) (v : View) (kept : IsKept limit reached ended k v) (looks : List Look) where
+module _ (limit reached : ℕ) (ended : Bool) (k : Cpu) (v : View) (kept : IsKept limit reached ended k v)
+    (looks : List Look) where
   -- the run apart
   looks_run : (x : Core) → RunsAs x limit k v → RunsAs x limit k (with_looks v looks)
   looks_run x r = record { stands = r.stands; makes = r.makes; next = r.next }
@@ -76,9 +78,12 @@ module _ (limit reached : ℕ) (ended : Bool) (k : Cpu) (v : View) (kept : IsKep
   looked_goes_on = record { runs = looks_run; place = refl; room = refl; cores = refl; course = refl; core = refl }
 
 -- told of a pass that differs in its looks alone
-pub kept_looking : (limit reached : ℕ) (ended : Bool) (k : Cpu) (v v' : View) → IsKept limit reached ended k v → v' ≡ with_looks v (own v').looks → IsKept limit reached ended k v' × GoesOnAs limit k v k v'
-kept_looking limit reached ended k v v' kept same =
-    (subst (IsKept limit reached ended k) (sym same) (looked_kept limit reached ended k v kept (own v').looks), subst (GoesOnAs limit k v k) (sym same) (looked_goes_on limit reached ended k v kept (own v').looks))
+pub kept_looking : (limit reached : ℕ) (ended : Bool) (k : Cpu) (v v' : View) → IsKept limit reached ended k v → v'
+    ≡ with_looks v (own v').looks → IsKept limit reached ended k v' × GoesOnAs limit k v k v'
+kept_looking limit reached ended k v v' kept same = (
+  subst (IsKept limit reached ended k) (sym same) (looked_kept limit reached ended k v kept (own v').looks),
+  subst (GoesOnAs limit k v k) (sym same) (looked_goes_on limit reached ended k v kept (own v').looks),
+)
 
 -- a core that waits does not wait for nothing
 none_some : (e : Event) → None ≡ Some e → ⊥
@@ -86,31 +91,40 @@ none_some e same = cc
 
 -- ---- the event that a core waits to be told
 
-module _ (limit reached : ℕ) (ended : Bool) (k : Cpu) (v : View) (kept : IsKept limit reached ended k v) (e : Event) (waits : waiting_of k ≡ Some e) where
+module _ (limit reached : ℕ) (ended : Bool) (k : Cpu) (v : View) (kept : IsKept limit reached ended k v) (e : Event)
+    (waits : waiting_of k ≡ Some e) where
   -- its stamp is published
   pub shown_event : IsShown (place_of k) limit (own v).published e
-  shown_event = let h : IfSome (Some e) (IsShown (place_of k) limit (own v).published) = subst (λ w. IfSome w (IsShown (place_of k) limit (own v).published)) waits kept.waits in h
+  shown_event = let h : IfSome (Some e) (IsShown (place_of k) limit (own v).published) =
+      subst (λ w. IfSome w (IsShown (place_of k) limit (own v).published)) waits kept.waits in h
 
   -- it comes next in the run, and is whole
   pub next_event : (x : Core) → RunsAs x limit k v → IsNextWhole x (own v).made limit e
-  next_event x r = let h : IfSome (Some e) (IsNextWhole x (own v).made limit) = subst (λ w. IfSome w (IsNextWhole x (own v).made limit)) waits r.next in h
+  next_event x r = let h : IfSome (Some e) (IsNextWhole x (own v).made limit) =
+      subst (λ w. IfSome w (IsNextWhole x (own v).made limit)) waits r.next in h
 
   -- what is left begins with its operations
   pub begins_left : (later : List Operation) × (todo v ≡ asked_by e (loads (todo v)) ++ later)
   begins_left =
-      let h = comes_first kept.run.0 (own v).made (todo v) (listed v) limit kept.run.1.makes kept.given.whole e (next_event kept.run.0 kept.run.1).next in
+      let h = comes_first kept.run.0 (own v).made (todo v) (listed v) limit kept.run.1.makes kept.given.whole e
+      (next_event kept.run.0 kept.run.1).next in
       (h.later, h.whole)
 
   -- it is made and told
-  module _ (k' : Cpu) (values : List ℕ) (made : List Operation) (given' : IsGiven (with_made v made)) (made_is : made ≡ (own v).made ++ asked_by e values)
+  module _ (k' : Cpu) (values : List ℕ) (made : List Operation) (given' : IsGiven (with_made v made))
+      (made_is : made ≡ (own v).made ++ asked_by e values)
       (left_is : todo v ≡ asked_by e values ++ todo (with_made v made))
-      (stands : IfSome (waiting_of k) (λ f. (x : Core) (made : List Operation) → StandsFor k x made → StandsFor k' x (made ++ asked_by f values)))
-      (free : waiting_of k' ≡ None) (at : limit_of k' ≡ limit_of k) (place : place_of k' ≡ place_of k) (room : room_of k' ≡ room_of k) where
+      (stands : IfSome (waiting_of k) (λ f. (x : Core) (made : List Operation) → StandsFor k x made
+      → StandsFor k' x (made ++ asked_by f values)))
+      (free : waiting_of k' ≡ None) (at : limit_of k' ≡ limit_of k) (place : place_of k' ≡ place_of k)
+      (room : room_of k' ≡ room_of k) where
     -- the core stands for the run with its operations
     stands_so : (x : Core) (made : List Operation) → StandsFor k x made → StandsFor k' x (made ++ asked_by e values)
     stands_so =
-        let h : IfSome (Some e) (λ f. (x : Core) (made : List Operation) → StandsFor k x made → StandsFor k' x (made ++ asked_by f values)) =
-        subst (λ w. IfSome w (λ f. (x : Core) (made : List Operation) → StandsFor k x made → StandsFor k' x (made ++ asked_by f values))) waits stands in
+        let h : IfSome (Some e) (λ f. (x : Core) (made : List Operation) → StandsFor k x made
+        → StandsFor k' x (made ++ asked_by f values)) =
+        subst (λ w. IfSome w (λ f. (x : Core) (made : List Operation) → StandsFor k x made
+        → StandsFor k' x (made ++ asked_by f values))) waits stands in
         h
 
     -- so the worker goes on as the same
@@ -138,7 +152,8 @@ module _ (limit reached : ℕ) (ended : Bool) (k : Cpu) (v : View) (kept : IsKep
       within = kept.within;
       asked = omega (arith, at, kept.asked);
       clock = kept.clock;
-      left = each_rest (λ o. clock_of (own v).published ≤ o.stamp) (asked_by e values) (todo (with_made v made)) (subst (Each (λ o. clock_of (own v).published ≤ o.stamp)) left_is kept.left);
+      left = each_rest (λ o. clock_of (own v).published ≤ o.stamp) (asked_by e values) (todo (with_made v made))
+          (subst (Each (λ o. clock_of (own v).published ≤ o.stamp)) left_is kept.left);
       grid = kept.grid;
       ends = kept.ends;
       waits = subst (λ w. IfSome w (IsShown (place_of k') limit (own v).published)) (sym free) tt;
@@ -147,13 +162,18 @@ module _ (limit reached : ℕ) (ended : Bool) (k : Cpu) (v : View) (kept : IsKep
     }
 
   -- told of a pass that differs in what it made alone
-  pub kept_resumed : (k' : Cpu) (v' : View) (values : List ℕ) → IsGiven v' → v' ≡ with_made v (own v').made → (own v').made ≡ (own v).made ++ asked_by e values → todo v ≡ asked_by e values ++ todo v'
-      → IfSome (waiting_of k) (λ f. (x : Core) (made : List Operation) → StandsFor k x made → StandsFor k' x (made ++ asked_by f values))
+  pub kept_resumed : (k' : Cpu) (v' : View) (values : List ℕ) → IsGiven v' → v' ≡ with_made v (own v').made
+      → (own v').made ≡ (own v).made ++ asked_by e values → todo v ≡ asked_by e values ++ todo v'
+      → IfSome (waiting_of k) (λ f. (x : Core) (made : List Operation) → StandsFor k x made
+      → StandsFor k' x (made ++ asked_by f values))
       → waiting_of k' ≡ None → limit_of k' ≡ limit_of k → place_of k' ≡ place_of k → room_of k' ≡ room_of k
       → IsKept limit reached ended k' v' × GoesOnAs limit k v k' v'
   kept_resumed k' v' values given' same made_is left_is stands free at place room =
       let given'' : IsGiven (with_made v (own v').made) = subst IsGiven same given' in
-      let left'' : todo v ≡ asked_by e values ++ todo (with_made v (own v').made) = left_is ∙ ap (λ u. asked_by e values ++ todo u) same in (
-        subst (IsKept limit reached ended k') (sym same) (resumed_kept k' values (own v').made given'' made_is left'' stands free at place room),
-        subst (GoesOnAs limit k v k') (sym same) (made_goes_on k' values (own v').made given'' made_is left'' stands free at place room),
+      let left'' : todo v ≡ asked_by e values ++ todo (with_made v (own v').made) =
+      left_is ∙ ap (λ u. asked_by e values ++ todo u) same in (
+        subst (IsKept limit reached ended k') (sym same) (resumed_kept k' values (own v').made given'' made_is left''
+            stands free at place room),
+        subst (GoesOnAs limit k v k') (sym same) (made_goes_on k' values (own v').made given'' made_is left'' stands
+            free at place room),
       )

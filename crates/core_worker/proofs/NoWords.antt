@@ -12,5 +12,7 @@ no_prefix [] rest e = refl
 no_prefix (o ∷ os) rest e = cc
 
 -- where there were no operations all words are 0
-pub all_zero : (b : BoardFace) (back : List Record) (answer : List ℕ) → b.course ≡ [] → IsEnd b back answer → (w : ℕ) → w < b.words → slice_index answer w ≡ 0
-all_zero b back answer none end w below = end.words w below ∙ ap (λ l. stored_last w l 0) (no_prefix end.done end.rest (sym none ∙ end.order))
+pub all_zero : (b : BoardFace) (back : List Record) (answer : List ℕ) → b.course ≡ [] → IsEnd b back answer → (w : ℕ)
+    → w < b.words → slice_index answer w ≡ 0
+all_zero b back answer none end w below =
+    end.words w below ∙ ap (λ l. stored_last w l 0) (no_prefix end.done end.rest (sym none ∙ end.order))

@@ -29,7 +29,8 @@ module _ (limit reached : ℕ) (ended : Bool) (k k' : Cpu) (v : View) (kept : Is
   still_given s = record { role = refl; among = kept.given.among; whole = kept.given.whole }
 
   -- the clock once a stamp is published that nothing left is before
-  left_from : (s : ℕ) → Each (λ o. s ≤ o.stamp) (todo v) → Each (λ o. clock_of ((own v).published ++ s ∷ []) ≤ o.stamp) (todo v)
+  left_from : (s : ℕ) → Each (λ o. s ≤ o.stamp) (todo v) → Each (λ o. clock_of ((own v).published ++ s ∷ [])
+      ≤ o.stamp) (todo v)
   left_from s h = subst (λ c. Each (λ o. c ≤ o.stamp) (todo v)) (sym (clock-push (own v).published s)) h
 
   -- ---- it has an event there
@@ -40,25 +41,31 @@ module _ (limit reached : ℕ) (ended : Bool) (k k' : Cpu) (v : View) (kept : Is
     fits = subst (λ w. IfSome w (EventFits (place_of k) end)) waits comes.fits
 
     next : (x : Core) (made : List Operation) → StandsFor k x made → IsNextOf x made end e
-    next = subst (λ w. IfSome w (λ f. (x : Core) (made : List Operation) → StandsFor k x made → IsNextOf x made end f)) waits comes.event
+    next = subst (λ w. IfSome w (λ f. (x : Core) (made : List Operation) → StandsFor k x made → IsNextOf x made end f))
+        waits comes.event
 
     whole : (x : Core) (made : List Operation) → StandsFor k x made → IsWholeOf x made end e
-    whole = subst (λ w. IfSome w (λ f. (x : Core) (made : List Operation) → StandsFor k x made → IsWholeOf x made end f)) waits comes.whole
+    whole = subst (λ w. IfSome w (λ f. (x : Core) (made : List Operation) → StandsFor k x made
+        → IsWholeOf x made end f)) waits comes.whole
 
     -- it comes next in the run up to the limit, and is whole
     next_at_limit : (x : Core) → RunsAs x limit k v → IsNextWhole x (own v).made limit e
     next_at_limit x r =
-        let below : e.stamp < stamp_from x.plain.site.cores end = subst (λ n. e.stamp < stamp_from n end) (sym (sited k x (own v).made r.stands).0) fits.below in
-        next_whole x (own v).made end limit e end_within below (next x (own v).made r.stands) (whole x (own v).made r.stands)
+        let below : e.stamp < stamp_from x.plain.site.cores end =
+        subst (λ n. e.stamp < stamp_from n end) (sym (sited k x (own v).made r.stands).0) fits.below in
+        next_whole x (own v).made end limit e end_within below (next x (own v).made r.stands)
+        (whole x (own v).made r.stands)
 
     -- nothing that is left is before it
     pub event_left : Each (λ o. e.stamp ≤ o.stamp) (todo v)
-    event_left = none_before kept.run.0 (own v).made (todo v) (listed v) limit kept.run.1.makes kept.given.whole e (next_at_limit kept.run.0 kept.run.1).next
+    event_left = none_before kept.run.0 (own v).made (todo v) (listed v) limit kept.run.1.makes kept.given.whole e
+        (next_at_limit kept.run.0 kept.run.1).next
 
     -- the clock is not past it
     pub event_late : clock_of (own v).published ≤ e.stamp
     event_late =
-        not_before kept.run.0 (own v).made (todo v) (listed v) limit kept.run.1.makes kept.given.whole (clock_of (own v).published) e (next_at_limit kept.run.0 kept.run.1).next fits.some sized kept.left
+        not_before kept.run.0 (own v).made (todo v) (listed v) limit kept.run.1.makes kept.given.whole
+        (clock_of (own v).published) e (next_at_limit kept.run.0 kept.run.1).next fits.some sized kept.left
 
     -- once its stamp is published the worker goes on as the same
     pub event_goes_on : GoesOnAs limit k v k' (given v (with_stamp (own v) e.stamp))
@@ -89,9 +96,16 @@ module _ (limit reached : ℕ) (ended : Bool) (k k' : Cpu) (v : View) (kept : Is
           clock = omega (arith, clock-push (own v).published e.stamp, early, ap (stamp_from v.cores) is);
           left = left_from e.stamp event_left;
           grid = kept.grid;
-          ends = λ h some low. Contains-append_left (own v).published (e.stamp ∷ []) (stamp_from v.cores (1024 * h)) (kept.ends h some low);
+          ends = λ h some low. Contains-append_left (own v).published (e.stamp ∷ []) (stamp_from v.cores (1024 * h))
+              (kept.ends h some low);
           waits = subst (λ w. IfSome w (IsShown (place_of k') limit ((own v).published ++ e.stamp ∷ []))) (sym waits)
-              (record { fits = subst (λ p. EventFits p limit e) (sym comes.place) (fits_limit (place_of k) end limit e end_within fits); sized = sized; shown = ((own v).published, refl) });
+              (record {
+                fits = subst (λ p. EventFits p limit e) (sym comes.place)
+                    (fits_limit (place_of k) end limit e end_within fits);
+                sized =
+                    sized;
+                shown = ((own v).published, refl);
+              });
           over = λ over. absurd (true≢false (sym over ∙ going));
           run = (kept.run.0, event_goes_on.runs kept.run.0 kept.run.1);
         }
@@ -109,7 +123,8 @@ module _ (limit reached : ℕ) (ended : Bool) (k k' : Cpu) (v : View) (kept : Is
         let r : RunsAs kept.run.0 limit k v = kept.run.1 in
         let site : kept.run.0.plain.site.cores ≡ v.cores = (sited k kept.run.0 (own v).made r.stands).0 ∙ kept.cores in
         subst (λ n. Each (λ o. stamp_from n end ≤ o.stamp) (todo v)) site
-        (all_late kept.run.0 (own v).made (todo v) (listed v) limit r.makes kept.given.whole end end_within (all kept.run.0 (own v).made r.stands))
+        (all_late kept.run.0 (own v).made (todo v) (listed v) limit r.makes kept.given.whole end end_within
+        (all kept.run.0 (own v).made r.stands))
 
     -- once a stamp is published the worker goes on as the same
     pub end_goes_on : (s : ℕ) → GoesOnAs limit k v k' (given v (with_stamp (own v) s))
@@ -127,20 +142,24 @@ module _ (limit reached : ℕ) (ended : Bool) (k k' : Cpu) (v : View) (kept : Is
     }
 
     -- the end of this piece is published, and each one before it was
-    end_shown : (h : ℕ) → 0 < h → 1024 * h ≤ end → Contains ((own v).published ++ stamp_from v.cores (end) ∷ []) (stamp_from v.cores (1024 * h))
+    end_shown : (h : ℕ) → 0 < h → 1024 * h ≤ end → Contains ((own v).published ++ stamp_from v.cores (end) ∷ [])
+        (stamp_from v.cores (1024 * h))
     end_shown h some low = elim (cases_lt reached (1024 * h)) [
       | inl new ↦
           let whole : reached % 1024 ≡ 0 = kept.grid (omega (arith, new, low)) in
           let same : 1024 * h ≡ end = omega (arith, whole, new, low, is) in
-          Contains-append_right (own v).published (stamp_from v.cores end ∷ []) (stamp_from v.cores (1024 * h)) (0, omega arith, ap (stamp_from v.cores) (sym same))
-      | inr old ↦ Contains-append_left (own v).published (stamp_from v.cores end ∷ []) (stamp_from v.cores (1024 * h)) (kept.ends h some old)
+          Contains-append_right (own v).published (stamp_from v.cores end ∷ []) (stamp_from v.cores (1024 * h))
+          (0, omega arith, ap (stamp_from v.cores) (sym same))
+      | inr old ↦ Contains-append_left (own v).published (stamp_from v.cores end ∷ []) (stamp_from v.cores (1024 * h))
+          (kept.ends h some old)
     ]
 
     -- where the piece ends at the limit, nothing is left
     over_at_end : end ≡ limit → HasEnded limit k' (given v (with_stamp (own v) (stamp_from v.cores (end))))
     over_at_end last_one =
         let r : RunsAs kept.run.0 limit k v = kept.run.1 in
-        let nothing : todo v ≡ [] = none_left kept.run.0 (own v).made (todo v) (listed v) limit r.makes kept.given.whole (subst (HasMadeAll kept.run.0 (own v).made) last_one (all kept.run.0 (own v).made r.stands)) in
+        let nothing : todo v ≡ [] = none_left kept.run.0 (own v).made (todo v) (listed v) limit r.makes kept.given.whole
+        (subst (HasMadeAll kept.run.0 (own v).made) last_one (all kept.run.0 (own v).made r.stands)) in
         let last : stamp_from v.cores end ≡ stamp_from v.cores limit = ap (stamp_from v.cores) last_one in
         record {
           made = sym (append-nil (own v).made) ∙ ap (λ l. (own v).made ++ l) (sym nothing) ∙ sym kept.given.whole;
@@ -159,11 +178,18 @@ module _ (limit reached : ℕ) (ended : Bool) (k k' : Cpu) (v : View) (kept : Is
       most = kept.most;
       within = end_within;
       asked = omega (arith, comes.at, end_within);
-      clock = omega (arith, clock-push (own v).published (stamp_from v.cores end), stamps_rise v.cores end (piece_end limit end) (omega (arith, end_within)));
+      clock = omega (
+        arith,
+        clock-push (own v).published (stamp_from v.cores end),
+        stamps_rise v.cores end
+            (piece_end limit end) (omega (arith, end_within)),
+      );
       left = left_from (stamp_from v.cores end) end_left;
-      grid = λ going. let before : reached < limit = omega (arith, going, is, kept.within) in let whole : reached % 1024 ≡ 0 = kept.grid before in omega (arith, whole, going, is);
+      grid = λ going. let before : reached < limit = omega (arith, going, is, kept.within) in let whole : reached % 1024
+          ≡ 0 = kept.grid before in omega (arith, whole, going, is);
       ends = end_shown;
-      waits = subst (λ w. IfSome w (IsShown (place_of k') limit ((own v).published ++ stamp_from v.cores end ∷ []))) (sym waits) tt;
+      waits = subst (λ w. IfSome w (IsShown (place_of k') limit ((own v).published ++ stamp_from v.cores end ∷ [])))
+          (sym waits) tt;
       over = λ over. over_at_end (eqb-true end limit over);
       run = (kept.run.0, (end_goes_on (stamp_from v.cores end)).runs kept.run.0 kept.run.1);
     }

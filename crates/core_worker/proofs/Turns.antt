@@ -16,13 +16,16 @@ use Rattle.core_worker.specs.Worker.{face, IsNextEvent, HasMoved, IsBlocked}
 use Rattle.core_worker.proofs.Going.{made_kept, looks_kept, shown_event}
 
 -- a core with a stamp waits for an event of that stamp
-pub waits_at : (w : Option Event) (s : ℕ) → option_map (λ f. f.stamp) w ≡ Some s → (e : Event) × ((w ≡ Some e) × (s ≡ e.stamp))
+pub waits_at : (w : Option Event) (s : ℕ) → option_map (λ f. f.stamp) w ≡ Some s → (e : Event)
+    × ((w ≡ Some e) × (s ≡ e.stamp))
 waits_at None s told = absurd (let none : None ≡ Some s = told in cc)
 waits_at (Some e) s told = (e, (refl, sym (same_Some e.stamp s told)))
 
-module _ (limit limit' reached : ℕ) (ended : Bool) (k k' : Cpu) (p p' : PassFace) (kept : IsKept limit' reached ended k' p'.view) (goes_on : GoesOnAs limit k p.view k' p'.view)
+module _ (limit limit' reached : ℕ) (ended : Bool) (k k' : Cpu) (p p' : PassFace)
+    (kept : IsKept limit' reached ended k' p'.view) (goes_on : GoesOnAs limit k p.view k' p'.view)
     (same : p'.view ≡ with_published p.view (own p'.view).published) (limit_is : limit' ≡ limit) where
-  module _ (e : Event) (s : ℕ) (waits : waiting_of k' ≡ Some e) (at : s ≡ e.stamp) (before : IfSome (waiting_of k) (λ f. waiting_of k' ≡ Some f)) where
+  module _ (e : Event) (s : ℕ) (waits : waiting_of k' ≡ Some e) (at : s ≡ e.stamp)
+      (before : IfSome (waiting_of k) (λ f. waiting_of k' ≡ Some f)) where
     -- the event's stamp is published
     shown : IsShown (place_of k') limit' (own p'.view).published e
     shown = shown_event limit' reached ended k' p'.view kept e waits
@@ -30,7 +33,8 @@ module _ (limit limit' reached : ℕ) (ended : Bool) (k k' : Cpu) (p p' : PassFa
     -- it comes next in the run, as it stood before the turn, and is whole
     next_in : (x : Core) → RunsAs x limit k p.view → IsNextWhole x (own p.view).made limit e
     next_in x r =
-        let h : IfSome (Some e) (IsNextWhole x (own p'.view).made limit) = subst (λ w. IfSome w (IsNextWhole x (own p'.view).made limit)) waits (goes_on.runs x r).next in
+        let h : IfSome (Some e) (IsNextWhole x (own p'.view).made limit) =
+        subst (λ w. IfSome w (IsNextWhole x (own p'.view).made limit)) waits (goes_on.runs x r).next in
         subst (λ made. IsNextWhole x made limit e) (made_kept p.view p'.view same) h
 
     -- where the core waited before the turn, it is what it waited for
@@ -49,7 +53,9 @@ module _ (limit limit' reached : ℕ) (ended : Bool) (k k' : Cpu) (p p' : PassFa
     }
 
     -- a look showed less than its stamp
-    pub blocked_turn : (core seen : ℕ) (p'' : PassFace) → p''.view ≡ with_looks p'.view (own p''.view).looks → SawOne s core seen (own p'.view).looks (own p''.view).looks → IsBlocked core seen s (face k p limit) (face k' p'' limit')
+    pub blocked_turn : (core seen : ℕ) (p'' : PassFace) → p''.view ≡ with_looks p'.view (own p''.view).looks
+        → SawOne s core seen (own p'.view).looks (own p''.view).looks
+        → IsBlocked core seen s (face k p limit) (face k' p'' limit')
     blocked_turn core seen p'' looked low = record {
       event = e;
       is = is_next;
@@ -61,18 +67,24 @@ module _ (limit limit' reached : ℕ) (ended : Bool) (k k' : Cpu) (p p' : PassFa
     }
 
     -- no look did, and it was made
-    pub moved_turn : (k'' : Cpu) (p'' p''' : PassFace) (limit'' : ℕ) → p''.view ≡ with_looks p'.view (own p''.view).looks → SawAll s (own p'.view).looks (own p''.view).looks → HasSeen p''.view s
-        → p'''.view ≡ with_made p''.view (own p'''.view).made → IfSome (waiting_of k') (λ f. (values : List ℕ) × ((own p'''.view).made ≡ (own p''.view).made ++ asked_by f values))
+    pub moved_turn : (k'' : Cpu) (p'' p''' : PassFace) (limit'' : ℕ) → p''.view
+        ≡ with_looks p'.view (own p''.view).looks → SawAll s (own p'.view).looks (own p''.view).looks
+        → HasSeen p''.view s
+        → p'''.view ≡ with_made p''.view (own p'''.view).made → IfSome (waiting_of k') (λ f. (values : List ℕ)
+        × ((own p'''.view).made ≡ (own p''.view).made ++ asked_by f values))
         → HasMoved (face k p limit) (face k'' p''' limit'')
     moved_turn k'' p'' p''' limit'' looked high seen resumed made_as =
         let made : (values : List ℕ) × ((own p'''.view).made ≡ (own p''.view).made ++ asked_by e values) =
-        subst (λ w. IfSome w (λ f. (values : List ℕ) × ((own p'''.view).made ≡ (own p''.view).made ++ asked_by f values))) waits made_as in
+        subst (λ w. IfSome w (λ f. (values : List ℕ) × ((own p'''.view).made ≡ (own p''.view).made
+        ++ asked_by f values))) waits made_as in
         record {
           event = e;
           is = is_next;
           values = made.0;
-          made = made.1 ∙ ap (λ l. l ++ asked_by e made.0) (ap (λ u. (own u).made) looked ∙ made_kept p.view p'.view same);
-          last = subst (EndsWith e.stamp) (sym (ap (λ u. (own u).published) resumed ∙ ap (λ u. (own u).published) looked)) shown.shown;
+          made = made.1 ∙ ap (λ l. l ++ asked_by e made.0) (ap (λ u. (own u).made) looked
+              ∙ made_kept p.view p'.view same);
+          last = subst (EndsWith e.stamp)
+              (sym (ap (λ u. (own u).published) resumed ∙ ap (λ u. (own u).published) looked)) shown.shown;
           seen = subst₂ HasSeen (sym resumed) at seen;
           looks = subst₂ (λ t before. SawAll t before (own p'''.view).looks) at (looks_kept p.view p'.view same)
               (subst (SawAll s (own p'.view).looks) (sym (ap (λ u. (own u).looks) resumed)) high);

@@ -18,7 +18,8 @@ mutual
   part_below : (n : ℕ) (p : PlainPart) → part_formed n p ≡ true → PartCallsBelow n p
   part_below n (straight bs) h = tt
   part_below n (repeats count body tail) h =
-      parts_below n body (and_parts (parts_formed n body) (is_iteration tail) (and_parts (nat_lt 0 count) (parts_formed n body && is_iteration tail) h).1).0
+      parts_below n body (and_parts (parts_formed n body) (is_iteration tail)
+      (and_parts (nat_lt 0 count) (parts_formed n body && is_iteration tail) h).1).0
   part_below n (calls_to k tail) h = ltb-true k n (and_parts (nat_lt k n) (is_way is_call tail) h).0
   part_below n (leaves tail) h = tt
 
@@ -43,10 +44,12 @@ function_below n (part (calls_to k tail) rest) h =
     (part_below n (calls_to k tail) both.0, function_below n rest both.1)
 
 -- all functions of a well-formed shape
-pub functions_below : (fs : List PlainParts) (n k : ℕ) → functions_formed fs n ≡ true → k < n → CallsBelow k (slice_index_or fs k no_part)
+pub functions_below : (fs : List PlainParts) (n k : ℕ) → functions_formed fs n ≡ true → k < n
+    → CallsBelow k (slice_index_or fs k no_part)
 functions_below fs n k h less = function_below k (slice_index_or fs k no_part) (each_formed fs k n less h)
 
-pub known_below : (functions : List (List Part)) (n : ℕ) (f : List Part) → n < length functions → f ≡ get_or functions n f
+pub known_below : (functions : List (List Part)) (n : ℕ) (f : List Part) → n < length functions → f
+    ≡ get_or functions n f
     → functions_formed (functions_of functions) (length functions) ≡ true → CallsBelow n (parts_of f)
 known_below functions n f within is h =
     subst (CallsBelow n) (function_at functions n f within is)
@@ -54,14 +57,17 @@ known_below functions n f within is h =
 
 -- ---- of parts
 
-pub body_below : (n : ℕ) (p : Part) (count : ℕ) (body : List Part) (tail : List Slots) → p ≡ Repeat count body tail → PartCallsBelow n (plain_part p)
+pub body_below : (n : ℕ) (p : Part) (count : ℕ) (body : List Part) (tail : List Slots) → p ≡ Repeat count body tail
+    → PartCallsBelow n (plain_part p)
     → CallsBelow n (parts_of body)
 body_below n p count body tail is h = subst (PartCallsBelow n) (repeat_said p count body tail is) h
 
-pub called_below : (n : ℕ) (p : Part) (k : ℕ) (tail : List Slots) → p ≡ CallTo k tail → PartCallsBelow n (plain_part p) → k < n
+pub called_below : (n : ℕ) (p : Part) (k : ℕ) (tail : List Slots) → p ≡ CallTo k tail → PartCallsBelow n (plain_part p)
+    → k < n
 called_below n p k tail is h = subst (PartCallsBelow n) (call_said p k tail is) h
 
-pub item_below : (n : ℕ) (ps : List Part) (i : ℕ) (p : Part) → i < length ps → p ≡ get_or ps i p → CallsBelow n (parts_of ps) → PartCallsBelow n (plain_part p)
+pub item_below : (n : ℕ) (ps : List Part) (i : ℕ) (p : Part) → i < length ps → p ≡ get_or ps i p
+    → CallsBelow n (parts_of ps) → PartCallsBelow n (plain_part p)
 item_below n [] i p within is h = absurd (omega arith)
 item_below n (x ∷ ps) zero p within is h = subst (λ y. PartCallsBelow n (plain_part y)) (sym is) h.0
 item_below n (x ∷ ps) (suc i) p within is h = item_below n ps i p (omega arith) is h.1
@@ -76,6 +82,12 @@ pub record ShapeFormed (s : PlainShape) : Type 0 where
 
 pub shape_parts : (s : PlainShape) → is_formed s ≡ true → ShapeFormed s
 shape_parts s h =
-    let a = and_parts (nat_le (length s.functions) 512) (functions_formed s.functions (length s.functions) && nat_lt s.entry (length s.functions)) h in
+    let a = and_parts (nat_le (length s.functions) 512) (functions_formed s.functions (length s.functions)
+    && nat_lt s.entry (length s.functions)) h in
     let b = and_parts (functions_formed s.functions (length s.functions)) (nat_lt s.entry (length s.functions)) a.1 in
-    record { few = leb-true (length s.functions) 512 a.0; functions = b.0; entry = ltb-true s.entry (length s.functions) b.1 }
+    record {
+      few = leb-true (length s.functions) 512 a.0;
+      functions = b.0;
+      entry = ltb-true s.entry
+          (length s.functions) b.1;
+    }

@@ -22,7 +22,8 @@ copies zero n rest = rest
 copies (suc count) n rest = n ∷ copies count n rest
 
 pub weights_are : (x : ℕ) → weights_in (items_of x) ≡ copies 24 234 (1984 ∷ [])
-unfolding digits plain_expr plain_steps plain_stmt plain_block plain_arms plain_otherwise hidden-the_row-Step-0 hidden-the_row-Stmt-0 hidden-the_row-Arm-1 hidden
+unfolding digits plain_expr plain_steps plain_stmt plain_block plain_arms plain_otherwise hidden-the_row-Step-0
+    hidden-the_row-Stmt-0 hidden-the_row-Arm-1 hidden
     expr_weight steps_weight stmt_weight block_weight arms_weight otherwise_weight
 weights_are x = refl
 
@@ -37,21 +38,27 @@ are_leaves (suc n) [] = false
 are_leaves (suc n) (f ∷ fs) = is_leaf f && are_leaves n fs
 
 pub leaves_are : (x : ℕ) → are_leaves 24 (with_calls (items_of x)).functions ≡ true
-unfolding digits plain_expr plain_steps plain_stmt plain_block plain_arms plain_otherwise hidden-the_row-Step-0 hidden-the_row-Stmt-0 hidden-the_row-Arm-1 hidden
+unfolding digits plain_expr plain_steps plain_stmt plain_block plain_arms plain_otherwise hidden-the_row-Step-0
+    hidden-the_row-Stmt-0 hidden-the_row-Arm-1 hidden
 leaves_are x = refl
 
 pub many_are : (x : ℕ) → length (with_calls (items_of x)).functions ≡ 25
-unfolding digits plain_expr plain_steps plain_stmt plain_block plain_arms plain_otherwise hidden-the_row-Step-0 hidden-the_row-Stmt-0 hidden-the_row-Arm-1 hidden
+unfolding digits plain_expr plain_steps plain_stmt plain_block plain_arms plain_otherwise hidden-the_row-Step-0
+    hidden-the_row-Stmt-0 hidden-the_row-Arm-1 hidden
 many_are x = refl
 
 pub entry_is : (x : ℕ) → (with_calls (items_of x)).entry ≡ 24
-unfolding digits plain_expr plain_steps plain_stmt plain_block plain_arms plain_otherwise hidden-the_row-Step-0 hidden-the_row-Stmt-0 hidden-the_row-Arm-1 hidden
+unfolding digits plain_expr plain_steps plain_stmt plain_block plain_arms plain_otherwise hidden-the_row-Step-0
+    hidden-the_row-Stmt-0 hidden-the_row-Arm-1 hidden
 entry_is x = refl
 
-pub iterations_are : (x : ℕ) → stmts_iterations (slice_index_or (with_calls (items_of x)).functions 24 no_function).body ≡ 16
-unfolding digits plain_expr plain_steps plain_stmt plain_block plain_arms plain_otherwise hidden-the_row-Step-0 hidden-the_row-Stmt-0 hidden-the_row-Arm-1 hidden
+pub iterations_are : (x : ℕ) → stmts_iterations (slice_index_or (with_calls (items_of x)).functions 24 no_function).body
+    ≡ 16
+unfolding digits plain_expr plain_steps plain_stmt plain_block plain_arms plain_otherwise hidden-the_row-Step-0
+    hidden-the_row-Stmt-0 hidden-the_row-Arm-1 hidden
 iterations_are x = refl
 
 pub calls_are : (x : ℕ) → stmts_call_count (slice_index_or (with_calls (items_of x)).functions 24 no_function).body ≡ 24
-unfolding digits plain_expr plain_steps plain_stmt plain_block plain_arms plain_otherwise hidden-the_row-Step-0 hidden-the_row-Stmt-0 hidden-the_row-Arm-1 hidden
+unfolding digits plain_expr plain_steps plain_stmt plain_block plain_arms plain_otherwise hidden-the_row-Step-0
+    hidden-the_row-Stmt-0 hidden-the_row-Arm-1 hidden
 calls_are x = refl

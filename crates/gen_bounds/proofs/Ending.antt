@@ -37,7 +37,8 @@ unfolding items
 items_read core x =
     let ts = tokens_of (tree_of x) in
     ap (program_on 4 core) (source_lexed x)
-    ∙ program_read ts (tree_of x) 4 core refl (tree_fits x) ((reads_programs ts).1 (record { tree = tree_of x; fits = tree_fits x; written = refl }))
+    ∙ program_read ts (tree_of x) 4 core refl (tree_fits x) ((reads_programs ts).1
+    (record { tree = tree_of x; fits = tree_fits x; written = refl }))
     ∙ ap (checked (items_of x)) (no_least (faults_of (items_of x) 4 core) (tree_is_valid x core))
 
 items_bounded : (x : ℕ) → weight_bound 39 (weights_in (items x)) (single (items x)) ≤ 14142880
@@ -45,15 +46,18 @@ unfolding items
 items_bounded x = bounded x
 
 -- on a core whose transactions take 39 cycles
-bound_few : (core x : ℕ) → transaction_cycles (0 ∷ 1 ∷ 2 ∷ 3 ∷ []) 8 core ≡ 39 → bound_on (0 ∷ 1 ∷ 2 ∷ 3 ∷ []) 8 core (items x) ≤ 14142880
+bound_few : (core x : ℕ) → transaction_cycles (0 ∷ 1 ∷ 2 ∷ 3 ∷ []) 8 core ≡ 39
+    → bound_on (0 ∷ 1 ∷ 2 ∷ 3 ∷ []) 8 core (items x) ≤ 14142880
 bound_few core x takes =
-    within (bound_on (0 ∷ 1 ∷ 2 ∷ 3 ∷ []) 8 core (items x)) (λ each. weight_bound each (weights_in (items x)) (single (items x))) (transaction_cycles (0 ∷ 1 ∷ 2 ∷ 3 ∷ []) 8 core) takes
+    within (bound_on (0 ∷ 1 ∷ 2 ∷ 3 ∷ []) 8 core (items x)) (λ each. weight_bound each (weights_in (items x))
+    (single (items x))) (transaction_cycles (0 ∷ 1 ∷ 2 ∷ 3 ∷ []) 8 core) takes
     (program_bounded 4 core 8 (0 ∷ 1 ∷ 2 ∷ 3 ∷ []) (items x) (omega arith) (items_valid core x)) (items_bounded x)
   where
     within : (bound : ℕ) (by : ℕ → ℕ) (each : ℕ) → each ≡ 39 → bound ≤ by each → by 39 ≤ 14142880 → bound ≤ 14142880
     within bound by each is below few = let same = ap by is in omega (arith, below, few, same)
 
-task_ends : (n core x : ℕ) → transaction_cycles (0 ∷ 1 ∷ 2 ∷ 3 ∷ []) 8 core ≡ 39 → EndsInTime (job_with n) (task_with core x)
+task_ends : (n core x : ℕ) → transaction_cycles (0 ∷ 1 ∷ 2 ∷ 3 ∷ []) 8 core ≡ 39
+    → EndsInTime (job_with n) (task_with core x)
 task_ends n core x takes = record {
   in_c = refl;
   items = items x;
@@ -67,5 +71,7 @@ task_ends n core x takes = record {
 pub tasks_end : (n : ℕ) → Each (EndsInTime (job_with n)) (job_with n).tasks
 tasks_end n =
     let second = after_task n in
-    let third = after_task second in
-    (task_ends n 0 n refl, (task_ends n 1 second refl, (task_ends n 2 third refl, (task_ends n 3 (after_task third) refl, tt))))
+    let third = after_task second in (
+      task_ends n 0 n refl,
+      (task_ends n 1 second refl, (task_ends n 2 third refl, (task_ends n 3 (after_task third) refl, tt))),
+    )

@@ -30,7 +30,8 @@ more_ascii : (left x : ℕ) → IsAscii (more_draws left x)
 unfolding more_draws
 more_ascii zero x = IsAscii-nil
 more_ascii (suc left) x = both (codes ", " ++ decimal (draw x)) (more_draws left (next x))
-    (both (codes ", ") (decimal (draw x)) (words (codes ", ") refl) (IsAscii-decimal (draw x) (omega (arith, draw_few x)))) (more_ascii left (next x))
+    (both (codes ", ") (decimal (draw x)) (words (codes ", ") refl)
+    (IsAscii-decimal (draw x) (omega (arith, draw_few x)))) (more_ascii left (next x))
 
 input_ascii : (x : ℕ) → IsAscii (input_line x)
 unfolding input_line
@@ -38,8 +39,10 @@ input_ascii x =
     let one = decimal (draw x) in
     let more = more_draws (WORDS - 1) (next x) in
     both (codes "input = [" ++ one ++ more ++ codes "]") (10 ∷ [])
-    (both (codes "input = [" ++ one ++ more) (codes "]") (both (codes "input = [" ++ one) more (both (codes "input = [") one (words (codes "input = [") refl)
-    (IsAscii-decimal (draw x) (omega (arith, draw_few x)))) (more_ascii (WORDS - 1) (next x))) (words (codes "]") refl)) (words (10 ∷ []) refl)
+    (both (codes "input = [" ++ one ++ more) (codes "]")
+    (both (codes "input = [" ++ one) more (both (codes "input = [") one (words (codes "input = [") refl)
+    (IsAscii-decimal (draw x) (omega (arith, draw_few x)))) (more_ascii (WORDS - 1) (next x))) (words (codes "]") refl))
+    (words (10 ∷ []) refl)
 
 delimited_ascii : (text : List ℕ) → IsAscii text → IsAscii (delimited text)
 delimited_ascii text ascii = both (delimited []) text (words (delimited []) refl) ascii
@@ -60,12 +63,15 @@ tasks_ascii (suc left) core x few =
     let rest = tasks left (core + 1) (after_task x) in
     let core_line = codes "core = " ++ decimal core in
     subst IsAscii (sym (task_text core x rest))
-    (both (line (codes "[[task]]")) (line core_line ++ (line (codes "lang = \"c\"") ++ from_source x rest)) (words (line (codes "[[task]]")) refl)
+    (both (line (codes "[[task]]")) (line core_line ++ (line (codes "lang = \"c\"") ++ from_source x rest))
+    (words (line (codes "[[task]]")) refl)
     (both (line core_line) (line (codes "lang = \"c\"") ++ from_source x rest)
-    (both core_line (10 ∷ []) (both (codes "core = ") (decimal core) (words (codes "core = ") refl) (IsAscii-decimal core (omega (arith, few)))) (words (10 ∷ []) refl))
+    (both core_line (10 ∷ []) (both (codes "core = ") (decimal core) (words (codes "core = ") refl)
+    (IsAscii-decimal core (omega (arith, few)))) (words (10 ∷ []) refl))
     (both (line (codes "lang = \"c\"")) (from_source x rest) (words (line (codes "lang = \"c\"")) refl)
     (from_source_ascii x rest (tasks_ascii left (core + 1) (after_task x) (omega (arith, few)))))))
 
 pub text_is_utf8 : (n : ℕ) → is_utf8 (generated n) ≡ true
 unfolding generated platform_lines
-text_is_utf8 n = is_utf8-from_IsUtf8 (generated n) (IsUtf8-from_ascii (generated n) (both platform_lines (tasks CORES 0 n) (words platform_lines refl) (tasks_ascii CORES 0 n (omega arith))))
+text_is_utf8 n = is_utf8-from_IsUtf8 (generated n) (IsUtf8-from_ascii (generated n)
+    (both platform_lines (tasks CORES 0 n) (words platform_lines refl) (tasks_ascii CORES 0 n (omega arith))))

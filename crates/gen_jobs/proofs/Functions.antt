@@ -7,7 +7,7 @@ use Rattle.c_tree.specs.declared.tokens.Token.{Token}
 use Rattle.c_tree.specs.declared.expressions.Expr.TheBlock.{hidden-the_row-Step-0}
 use Rattle.c_tree.specs.declared.statements.Stmt.TheBlock.{hidden-the_row-Stmt-0, hidden-the_row-Arm-1}
 use Rattle.c_tree.specs.Tokens.{expr_tokens, steps_tokens, stmt_tokens, block_tokens, arms_tokens, further_tokens, otherwise_tokens, function_tokens}
-use Rattle.c_lex.specs.Texts.{piece_behind}
+use Rattle.c_lex.specs.Texts.{piece_after}
 use Rattle.gen_jobs.proofs.Cut.{Reads, cut, then_reads, tokens_in}
 use Rattle.gen_jobs.proofs.Numbers.{reads_name, reads_number}
 use Rattle.gen_jobs.proofs.Trees.{function_of}
@@ -46,7 +46,7 @@ record ReadsWords (rest : List ℕ) : Type 0 where
   end : Reads (return_text ++ rest) (words 11 return_text) rest
 
 reads_words : (rest : List ℕ) → ReadsWords rest
-unfolding piece_behind return_text
+unfolding piece_after return_text
 reads_words rest = record {
   index = record { pieces = 2; cuts = refl };
   mask = record { pieces = 25; cuts = refl };
@@ -60,23 +60,32 @@ reads_words rest = record {
 -- a function's text, part by part
 abbrev parts : ℕ → ℕ → ℕ → ℕ → List ℕ → List ℕ
 parts index mask factor term rest =
-    before_index ++ (codes "f" ++ (decimal index ++ (before_mask ++ (decimal mask ++ (before_factor ++ (decimal factor ++ (before_term ++ (decimal term
+    before_index
+    ++ (codes "f"
+    ++ (decimal index
+    ++ (before_mask ++ (decimal mask ++ (before_factor ++ (decimal factor ++ (before_term ++ (decimal term
     ++ (before_mixed ++ (decimal term ++ (before_last ++ (decimal factor ++ (return_text ++ rest)))))))))))))
 
-regrouped : (f i x m y k p t e d s r : List ℕ) → (f ++ i ++ x ++ m) ++ (y ++ k ++ p ++ t) ++ (e ++ t ++ d ++ k) ++ r ++ s
+regrouped : (f i x m y k p t e d s r : List ℕ) → (f ++ i ++ x ++ m) ++ (y ++ k ++ p ++ t)
+    ++ (e ++ t ++ d ++ k) ++ r ++ s
     ≡ f ++ (i ++ (x ++ (m ++ (y ++ (k ++ (p ++ (t ++ (e ++ (t ++ (d ++ (k ++ (r ++ s))))))))))))
 regrouped f i x m y k p t e d s r = simp append_assoc refl
 
-in_parts : (index mask factor term : ℕ) (rest : List ℕ) → function_text index mask factor term ++ rest ≡ parts index mask factor term rest
+in_parts : (index mask factor term : ℕ) (rest : List ℕ) → function_text index mask factor term ++ rest
+    ≡ parts index mask factor term rest
 unfolding function_text test_text then_text else_text
 in_parts index mask factor term rest =
-    regrouped (codes "int f") (decimal index) before_mask (decimal mask) before_factor (decimal factor) before_term (decimal term) before_mixed before_last rest return_text
+    regrouped (codes "int f") (decimal index) before_mask (decimal mask) before_factor (decimal factor) before_term
+    (decimal term) before_mixed before_last rest return_text
 
-pub reads_function : (index mask factor term : ℕ) (rest : List ℕ) → index < 1000 → mask < 1000 → factor < 1000 → term < 1000
+pub reads_function : (index mask factor term : ℕ) (rest : List ℕ) → index < 1000 → mask < 1000
+    → factor < 1000 → term < 1000
     → Reads (function_text index mask factor term ++ rest) (function_tokens (function_of index mask factor term)) rest
-unfolding piece_behind return_text expr_tokens steps_tokens stmt_tokens block_tokens arms_tokens further_tokens otherwise_tokens hidden-the_row-Step-0 hidden-the_row-Stmt-0 hidden-the_row-Arm-1 hidden
+unfolding piece_after return_text expr_tokens steps_tokens stmt_tokens block_tokens arms_tokens further_tokens
+    otherwise_tokens hidden-the_row-Step-0 hidden-the_row-Stmt-0 hidden-the_row-Arm-1 hidden
 reads_function index mask factor term rest i m f t =
-    subst (λ text. Reads text (function_tokens (function_of index mask factor term)) rest) (sym (in_parts index mask factor term rest))
+    subst (λ text. Reads text (function_tokens (function_of index mask factor term)) rest)
+    (sym (in_parts index mask factor term rest))
     (then_reads (reads_words _).index (then_reads (reads_name index before_mask _ (omega (arith, i)) refl)
     (then_reads (reads_words _).mask (then_reads (reads_number mask before_factor _ (omega (arith, m)) refl)
     (then_reads (reads_words _).factor (then_reads (reads_number factor before_term _ (omega (arith, f)) refl)

@@ -22,7 +22,13 @@ items_from (suc left) x = item (integer (pos (draw x))) (items_from left (next x
 items_text : (left x : ℕ) → IsItemsText false false false (items_from left x) (more_draws left x ++ codes "]")
 unfolding more_draws
 items_text zero x = refl
-items_text (suc left) x = (decimal (draw x), more_draws left (next x) ++ codes "]", simp append_assoc refl, (refl, omega (arith, draw_few x)), items_text left (next x))
+items_text (suc left) x = (
+  decimal (draw x),
+  more_draws left (next x) ++ codes "]",
+  simp append_assoc refl,
+  (refl, omega (arith, draw_few x)),
+  items_text left (next x),
+)
 
 items_flat : (left x : ℕ) → items_depth (items_from left x) ≡ 0
 items_flat zero x = refl
@@ -32,15 +38,23 @@ items_dates : (left x : ℕ) → items_have_valid_dates (items_from left x) ≡ 
 items_dates zero x = refl
 items_dates (suc left) x = items_dates left (next x)
 
-pub input_turn : (x : ℕ) (rest : List ℕ) → Turn ([], codes "input") (key_value (array (items_from WORDS x))) (input_line x ++ rest) rest
+pub input_turn : (x : ℕ) (rest : List ℕ) → Turn ([], codes "input") (key_value (array (items_from WORDS x)))
+    (input_line x ++ rest) rest
 unfolding input_line key_text
-input_turn x rest = line_turn false false ([], codes "input") (key_value (array (items_from WORDS x))) (input_line x) rest (
-  codes "[" ++ (decimal (draw x) ++ (more_draws (WORDS - 1) (next x) ++ codes "]")),
-  simp append_assoc refl,
-  (
-    decimal (draw x) ++ (more_draws (WORDS - 1) (next x) ++ codes "]"),
-    refl,
-    (decimal (draw x), more_draws (WORDS - 1) (next x) ++ codes "]", refl, (refl, omega (arith, draw_few x)), items_text (WORDS - 1) (next x)),
-  ),
-)
+input_turn x rest =
+    line_turn false false ([], codes "input") (key_value (array (items_from WORDS x))) (input_line x) rest (
+      codes "[" ++ (decimal (draw x) ++ (more_draws (WORDS - 1) (next x) ++ codes "]")),
+      simp append_assoc refl,
+      (
+        decimal (draw x) ++ (more_draws (WORDS - 1) (next x) ++ codes "]"),
+        refl,
+        (
+          decimal (draw x),
+          more_draws (WORDS - 1) (next x) ++ codes "]",
+          refl,
+          (refl, omega (arith, draw_few x)),
+          items_text (WORDS - 1) (next x),
+        ),
+      ),
+    )
     (refl, omega (arith, items_flat (WORDS - 1) (next x)), items_dates (WORDS - 1) (next x))

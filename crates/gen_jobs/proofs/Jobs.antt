@@ -43,38 +43,49 @@ inputs_are x = input_is WORDS x (omega arith)
 
 -- the table of a task, and the task that it is
 abbrev members_of : ℕ → Items → List ℕ → Members
-members_of core items text = member (codes "core") (integer (pos core)) (member (codes "input") (array items) (member (codes "lang") (string (codes "c")) (member (codes "source") (string text) no_members)))
+members_of core items text = member (codes "core") (integer (pos core)) (member (codes "input") (array items)
+    (member (codes "lang") (string (codes "c")) (member (codes "source") (string text) no_members)))
 
-task_is : (core : ℕ) (items : Items) (text input taken : List ℕ) (place : Option ℕ) → nat_le core 3 ≡ true → list_any (nat_eq core) taken ≡ false → input_of (Some (array items)) ≡ Ok input
-    → task_in 4 taken place (members_of core items text) ≡ Ok (record { core = core; lang = C; source = text; input = input; start = 0 })
+task_is : (core : ℕ) (items : Items) (text input taken : List ℕ) (place : Option ℕ) → nat_le core 3 ≡ true
+    → list_any (nat_eq core) taken ≡ false → input_of (Some (array items)) ≡ Ok input
+    → task_in 4 taken place (members_of core items text)
+    ≡ Ok (record { core = core; lang = C; source = text; input = input; start = 0 })
 unfolding task_in core_in
-task_is core items text input taken place few new read = let from : nat_le 0 core ≡ true = grind (arith, nat_tests) in rw (from, few, new, read) refl
+task_is core items text input taken place few new read =
+    let from : nat_le 0 core ≡ true = grind (arith, nat_tests) in rw (from, few, new, read) refl
 
 -- the next of the tasks
-next_task : (core : ℕ) (items : Items) (text input : List ℕ) (earlier : List Task) (others : List Members) (after : Result (List Task) Fault) → nat_le core 3 ≡ true
+next_task : (core : ℕ) (items : Items) (text input : List ℕ) (earlier : List Task) (others : List Members)
+    (after : Result (List Task) Fault) → nat_le core 3 ≡ true
     → list_any (nat_eq core) (cores_of earlier) ≡ false → input_of (Some (array items)) ≡ Ok input
-    → tasks_from 4 (earlier ++ record { core = core; lang = C; source = text; input = input; start = 0 } ∷ []) others ≡ after
+    → tasks_from 4 (earlier ++ record { core = core; lang = C; source = text; input = input; start = 0 } ∷ []) others
+    ≡ after
     → tasks_from 4 earlier (members_of core items text ∷ others) ≡ after
 unfolding tasks_from
-next_task core items text input earlier others after few new read more = rw (task_is core items text input (cores_of earlier) (Some (length earlier)) few new read) more
+next_task core items text input earlier others after few new read more =
+    rw (task_is core items text input (cores_of earlier) (Some (length earlier)) few new read) more
 
 -- the tables of tasks, and the tasks that they are
 abbrev generated_table : ℕ → ℕ → Members
 generated_table core x = members_of core (items_from WORDS (after_functions x)) (source x)
 
-next_generated : (core x : ℕ) (earlier : List Task) (others : List Members) (after : Result (List Task) Fault) → nat_le core 3 ≡ true
+next_generated : (core x : ℕ) (earlier : List Task) (others : List Members) (after : Result (List Task) Fault)
+    → nat_le core 3 ≡ true
     → list_any (nat_eq core) (cores_of earlier) ≡ false → tasks_from 4 (earlier ++ task_with core x ∷ []) others ≡ after
     → tasks_from 4 earlier (generated_table core x ∷ others) ≡ after
 next_generated core x earlier others after few new more =
-    next_task core (items_from WORDS (after_functions x)) (source x) (words_from WORDS (after_functions x)) earlier others after few new (inputs_are (after_functions x)) more
+    next_task core (items_from WORDS (after_functions x)) (source x) (words_from WORDS (after_functions x)) earlier
+    others after few new (inputs_are (after_functions x)) more
 
-tasks_are : (x y z w : ℕ) → tasks_from 4 [] (generated_table 0 x ∷ generated_table 1 y ∷ generated_table 2 z ∷ generated_table 3 w ∷ []) ≡ Ok (task_with 0 x ∷ task_with 1 y ∷ task_with 2 z ∷ task_with 3 w ∷ [])
+tasks_are : (x y z w : ℕ) → tasks_from 4 [] (generated_table 0 x ∷ generated_table 1 y ∷ generated_table 2 z
+    ∷ generated_table 3 w ∷ []) ≡ Ok (task_with 0 x ∷ task_with 1 y ∷ task_with 2 z ∷ task_with 3 w ∷ [])
 unfolding tasks_from
 tasks_are x y z w =
     next_generated 0 x [] (generated_table 1 y ∷ generated_table 2 z ∷ generated_table 3 w ∷ []) _ refl refl
     (next_generated 1 y (task_with 0 x ∷ []) (generated_table 2 z ∷ generated_table 3 w ∷ []) _ refl refl
     (next_generated 2 z (task_with 0 x ∷ task_with 1 y ∷ []) (generated_table 3 w ∷ []) _ refl refl
-    (next_generated 3 w (task_with 0 x ∷ task_with 1 y ∷ task_with 2 z ∷ []) [] (Ok (task_with 0 x ∷ task_with 1 y ∷ task_with 2 z ∷ task_with 3 w ∷ [])) refl refl refl)))
+    (next_generated 3 w (task_with 0 x ∷ task_with 1 y ∷ task_with 2 z ∷ []) []
+    (Ok (task_with 0 x ∷ task_with 1 y ∷ task_with 2 z ∷ task_with 3 w ∷ [])) refl refl refl)))
 
 pub job_is : (n : ℕ) → job_of (generated n) ≡ Ok (job_with n)
 unfolding job_of tree_of job_in platform_in

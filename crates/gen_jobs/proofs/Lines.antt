@@ -25,7 +25,8 @@ abbrev pub source_text : List ℕ → List ℕ → List ℕ
 source_text content rest = codes "source" ++ (codes " = " ++ delimited (content ++ delimited rest))
 
 -- a literal string reads as itself
-literal_body : (content rest : List ℕ) (n : ℕ) → list_all (is_plain 39 true) content ≡ true → length content < n → (first rest == 39) ≡ false
+literal_body : (content rest : List ℕ) (n : ℕ) → list_all (is_plain 39 true) content ≡ true → length content < n
+    → (first rest == 39) ≡ false
     → body 39 true n (content ++ 39 ∷ 39 ∷ 39 ∷ rest) ≡ Some (content, rest)
 unfolding body special
 literal_body [] [] (suc n) plain more other = refl
@@ -37,8 +38,11 @@ literal_body (c ∷ cs) rest (suc n) plain more other =
 literal_body content rest zero plain more other = absurd (omega arith)
 
 -- a key with a number
-pub number_turn : (k : List ℕ) (n : ℕ) (rest : List ℕ) → key_text k ≡ k → n < 2 ^ 63 → Turn ([], k) (key_value (integer (pos n))) ((k ++ (codes " = " ++ (decimal n ++ 10 ∷ []))) ++ rest) rest
-number_turn k n rest bare few = line_turn false false ([], k) (key_value (integer (pos n))) _ rest (decimal n, ap (λ key. key ++ (codes " = " ++ (decimal n ++ 10 ∷ []))) (sym bare), (refl, omega (arith, few))) (refl, omega arith, refl)
+pub number_turn : (k : List ℕ) (n : ℕ) (rest : List ℕ) → key_text k ≡ k → n < 2 ^ 63
+    → Turn ([], k) (key_value (integer (pos n))) ((k ++ (codes " = " ++ (decimal n ++ 10 ∷ []))) ++ rest) rest
+number_turn k n rest bare few = line_turn false false ([], k) (key_value (integer (pos n))) _ rest
+    (decimal n, ap (λ key. key ++ (codes " = " ++ (decimal n ++ 10 ∷ []))) (sym bare), (refl, omega (arith, few)))
+    (refl, omega arith, refl)
 
 -- the value of a source
 source_value : (content rest : List ℕ) → list_all (is_plain 39 true) content ≡ true
@@ -46,7 +50,8 @@ source_value : (content rest : List ℕ) → list_all (is_plain 39 true) content
 unfolding val atom quoted
 source_value content rest plain =
     let size = length-append content (delimited rest) in
-    rw (literal_body content (10 ∷ rest) (length (delimited (content ++ delimited rest))) plain (omega (arith, size)) refl) refl
+    rw (literal_body content (10 ∷ rest) (length (delimited (content ++ delimited rest))) plain
+    (omega (arith, size)) refl) refl
 
 ends_at_newline : (rest : List ℕ) → ends_line (skip_ws (10 ∷ rest)) ≡ true
 ends_at_newline rest = rw (skip_ws_none (10 ∷ rest) refl) (grind (arith, nat_tests))
@@ -56,32 +61,45 @@ source_line : (content rest : List ℕ) → list_all (is_plain 39 true) content 
 unfolding line expression key_text
 source_line content rest plain =
     let v = delimited (content ++ delimited rest) in
-    let pair = keyval_ok (val 80) (source_text content rest) v (10 ∷ rest) ([], codes "source") (string content) (key_equals-pair (codes "source") v refl) (source_value content rest plain) in
+    let pair = keyval_ok (val 80) (source_text content rest) v (10 ∷ rest) ([], codes "source") (string content)
+    (key_equals-pair (codes "source") v refl) (source_value content rest plain) in
     rw (pair, ends_at_newline rest) refl
 
 pub source_turn : (content rest : List ℕ) → list_all (is_plain 39 true) content ≡ true
     → Turn ([], codes "source") (key_value (string content)) (source_text content rest) rest
 source_turn content rest plain =
-    let size = length-append content (delimited rest) in
-    (source_text content rest, skip_none (source_text content rest) 115 refl refl, source_line content rest plain, omega (arith, size), omega (arith, size), refl)
+    let size = length-append content (delimited rest) in (
+      source_text content rest,
+      skip_none (source_text content rest) 115 refl refl,
+      source_line content rest plain,
+      omega (arith, size),
+      omega (arith, size),
+      refl,
+    )
 
 -- lines that are read one after another, each with its expression
 abbrev pub ReadsTo : List Expression → List ℕ → List ℕ → Type 0
 ReadsTo [] text end = text ≡ end
 ReadsTo (e ∷ es) text end = (rest : List ℕ) × Turn e.0 e.1 text rest × ReadsTo es rest end
 
-pub reads_on : (es fs : List Expression) (text middle end : List ℕ) → ReadsTo es text middle → ReadsTo fs middle end → ReadsTo (es ++ fs) text end
+pub reads_on : (es fs : List Expression) (text middle end : List ℕ) → ReadsTo es text middle → ReadsTo fs middle end
+    → ReadsTo (es ++ fs) text end
 reads_on [] fs text middle end read more = subst (λ t. ReadsTo fs t end) (sym read) more
 reads_on (e ∷ es) fs text middle end (rest, turn, read) more = (rest, turn, reads_on es fs rest middle end read more)
 
 -- one expression more, where it is defined
-step : (m : ℕ) (doc : Document) (x : List ℕ) (e : Expression) (after : List ℕ) (es : List Expression) (defined : Option Document) → defined ≡ define doc e → 0 < m → (length (skip_blank x) == 0) ≡ false
-    → line (skip_blank x) ≡ Some (e, after) → ((next : Document) → lines (m - 1) next after ≡ run next es) → lines m doc x ≡ option_and_then (λ n. run n es) defined
+step : (m : ℕ) (doc : Document) (x : List ℕ) (e : Expression) (after : List ℕ) (es : List Expression)
+    (defined : Option Document) → defined ≡ define doc e → 0 < m → (length (skip_blank x) == 0) ≡ false
+    → line (skip_blank x) ≡ Some (e, after) → ((next : Document) → lines (m - 1) next after ≡ run next es)
+    → lines m doc x ≡ option_and_then (λ n. run n es) defined
 step m doc x e after es None same some other read more = lines_refused m doc x e after some other read (sym same)
-step m doc x e after es (Some next) same some other read more = lines_more m doc next x e after some other read (sym same) ∙ more next
+step m doc x e after es (Some next) same some other read more =
+    lines_more m doc next x e after some other read (sym same) ∙ more next
 
-read_from : (es : List Expression) (text x : List ℕ) (doc : Document) (m : ℕ) → ReadsTo es text [] → skip_blank x ≡ skip_blank text → length x < m → lines m doc x ≡ run doc es
-read_from [] text x doc m reads skip room = lines_end m doc x (omega arith) (rw (skip, reads, skip_from-nil true false) refl)
+read_from : (es : List Expression) (text x : List ℕ) (doc : Document) (m : ℕ) → ReadsTo es text [] → skip_blank x
+    ≡ skip_blank text → length x < m → lines m doc x ≡ run doc es
+read_from [] text x doc m reads skip room =
+    lines_end m doc x (omega arith) (rw (skip, reads, skip_from-nil true false) refl)
 read_from (e ∷ es) text x doc m reads skip room =
     let (rest, turn, more) = reads in
     let (s, at_start, read, some, shorter, not_bom) = turn in
@@ -92,7 +110,8 @@ read_from (e ∷ es) text x doc m reads skip room =
     (λ next. read_from es rest (10 ∷ rest) next (m - 1) more (skip_newline rest) (omega (arith, ap length same)))
 
 -- a text without a byte order mark that is read so is the table of its expressions
-pub document_of : (e : Expression) (es : List Expression) (text : List ℕ) → ReadsTo (e ∷ es) text [] → parse_document text ≡ option_map (λ doc. close doc.0) (run (no_nodes, []) (e ∷ es))
+pub document_of : (e : Expression) (es : List Expression) (text : List ℕ) → ReadsTo (e ∷ es) text []
+    → parse_document text ≡ option_map (λ doc. close doc.0) (run (no_nodes, []) (e ∷ es))
 unfolding parse_document skip_bom
 document_of e es text reads =
     let (rest, turn, more) = reads in

@@ -37,8 +37,10 @@ words text all = record { all = all }
 pair : (text : List ℕ) (n : ℕ) → list_all is_quiet text ≡ true → n < 2 ^ 64 → IsQuiet (text ++ decimal n)
 pair text n plain few = both text (decimal n) (words text plain) (number n few)
 
-two_pairs : (text more : List ℕ) (n m : ℕ) → list_all is_quiet text ≡ true → list_all is_quiet more ≡ true → n < 2 ^ 64 → m < 2 ^ 64 → IsQuiet (text ++ decimal n ++ more ++ decimal m)
-two_pairs text more n m plain also few less = both (text ++ decimal n ++ more) (decimal m) (both (text ++ decimal n) more (pair text n plain few) (words more also)) (number m less)
+two_pairs : (text more : List ℕ) (n m : ℕ) → list_all is_quiet text ≡ true → list_all is_quiet more ≡ true → n < 2 ^ 64
+    → m < 2 ^ 64 → IsQuiet (text ++ decimal n ++ more ++ decimal m)
+two_pairs text more n m plain also few less = both (text ++ decimal n ++ more) (decimal m)
+    (both (text ++ decimal n) more (pair text n plain few) (words more also)) (number m less)
 
 function_quiet : (index x : ℕ) → index < 100 → IsQuiet (function_line index x)
 unfolding function_line function_text test_text then_text else_text return_text
@@ -49,7 +51,8 @@ function_quiet index x few =
     both (test_text index mask ++ then_text factor term ++ else_text factor term) return_text
     (both (test_text index mask ++ then_text factor term) (else_text factor term)
     (both (test_text index mask) (then_text factor term)
-    (two_pairs (codes "int f") (codes "(int x) { int y = x; if ((x & ") index mask refl refl (omega (arith, few)) (omega arith))
+    (two_pairs (codes "int f")
+    (codes "(int x) { int y = x; if ((x & ") index mask refl refl (omega (arith, few)) (omega arith))
     (two_pairs (codes ") == 0) { y = x * ") (codes " + ") factor term refl refl (omega arith) (omega arith)))
     (two_pairs (codes "; } else { y = (x ^ ") (codes ") - ") term factor refl refl (omega arith) (omega arith)))
     (words return_text refl)
@@ -57,27 +60,34 @@ function_quiet index x few =
 functions_quiet : (left index x : ℕ) → index + left < 100 → IsQuiet (functions left index x)
 unfolding functions
 functions_quiet zero index x few = words [] refl
-functions_quiet (suc left) index x few = both (function_line index x) (functions left (index + 1) (after 3 x)) (function_quiet index x (omega (arith, few))) (functions_quiet left (index + 1) (after 3 x) (omega (arith, few)))
+functions_quiet (suc left) index x few = both (function_line index x) (functions left (index + 1) (after 3 x))
+    (function_quiet index x (omega (arith, few))) (functions_quiet left (index + 1) (after 3 x) (omega (arith, few)))
 
 call_quiet : (index : ℕ) → index < 100 → IsQuiet (call_line index)
-call_quiet index few = both (codes "s = f" ++ decimal index ++ codes "(s);") (10 ∷ []) (both (codes "s = f" ++ decimal index) (codes "(s);") (pair (codes "s = f") index refl (omega (arith, few))) (words (codes "(s);") refl)) (words (10 ∷ []) refl)
+call_quiet index few = both (codes "s = f" ++ decimal index ++ codes "(s);") (10 ∷ [])
+    (both (codes "s = f" ++ decimal index) (codes "(s);") (pair (codes "s = f") index refl (omega (arith, few)))
+    (words (codes "(s);") refl)) (words (10 ∷ []) refl)
 
 calls_quiet : (left index : ℕ) → index + left < 100 → IsQuiet (calls left index)
 unfolding calls
 calls_quiet zero index few = words [] refl
-calls_quiet (suc left) index few = both (call_line index) (calls left (index + 1)) (call_quiet index (omega (arith, few))) (calls_quiet left (index + 1) (omega (arith, few)))
+calls_quiet (suc left) index few = both (call_line index) (calls left (index + 1))
+    (call_quiet index (omega (arith, few))) (calls_quiet left (index + 1) (omega (arith, few)))
 
 main_quiet : IsQuiet main_lines
 unfolding main_lines
 main_quiet =
-    let begins = line (codes "int main() { int s = 0; int i = 0; _Pragma(\"loopbound min 16 max 16\") while (i < 16) { s = s + in[i];") in
+    let begins =
+    line (codes "int main() { int s = 0; int i = 0; _Pragma(\"loopbound min 16 max 16\") while (i < 16) { s = s + in[i];") in
     let ends = line (codes "i = i + 1; } out[0] = s; return s; }") in
-    both (begins ++ calls FUNCTIONS 0) ends (both begins (calls FUNCTIONS 0) (words begins refl) (calls_quiet FUNCTIONS 0 (omega arith))) (words ends refl)
+    both (begins ++ calls FUNCTIONS 0) ends (both begins (calls FUNCTIONS 0) (words begins refl)
+    (calls_quiet FUNCTIONS 0 (omega arith))) (words ends refl)
 
 pub source_quiet : (x : ℕ) → IsQuiet (source x)
 unfolding source array_lines
 source_quiet x =
-    both (array_lines ++ functions FUNCTIONS 0 x) main_lines (both array_lines (functions FUNCTIONS 0 x) (words array_lines refl) (functions_quiet FUNCTIONS 0 x (omega arith))) main_quiet
+    both (array_lines ++ functions FUNCTIONS 0 x) main_lines (both array_lines (functions FUNCTIONS 0 x)
+    (words array_lines refl) (functions_quiet FUNCTIONS 0 x (omega arith))) main_quiet
 
 -- such a text stands for itself between apostrophes, and is ASCII
 pub quiet_plain : (text : List ℕ) → list_all is_quiet text ≡ true → list_all (is_plain 39 true) text ≡ true

@@ -65,7 +65,8 @@ moved_down factor term = between 9 (Paren (boxed (mixed term))) binary.Minus (nu
 -- a function's choice by its test
 abbrev pub choice : ℕ → ℕ → ℕ → Stmt
 choice mask factor term =
-    If (record { condition = test mask; body = sets (codes "y") (moved_up factor term) ∷ [] } ∷ []) (Some (sets (codes "y") (moved_down factor term) ∷ []))
+    If (record { condition = test mask; body = sets (codes "y") (moved_up factor term) ∷ [] } ∷ [])
+    (Some (sets (codes "y") (moved_down factor term) ∷ []))
 
 abbrev pub function_of : ℕ → ℕ → ℕ → ℕ → Function
 function_of index mask factor term = record {
@@ -73,7 +74,8 @@ function_of index mask factor term = record {
   name = function_name index;
   void_word = false;
   parameters = record { kind = kind.Int; name = codes "x" } ∷ [];
-  body = Declare kind.Int (codes "y") (Some (right.Value (variable (codes "x")))) ∷ choice mask factor term ∷ Return (Some (variable (codes "y"))) ∷ [];
+  body = Declare kind.Int (codes "y") (Some (right.Value (variable (codes "x")))) ∷ choice mask factor term
+      ∷ Return (Some (variable (codes "y"))) ∷ [];
 }
 
 -- `i = i + 1`, `s + in[i]` and `i < 16`
@@ -89,7 +91,8 @@ in_array = between 7 (variable (codes "i")) binary.Less (number 16)
 -- the loop's block from the call of a function on, where so many are called
 abbrev pub turn_from : ℕ → ℕ → List Stmt
 turn_from zero index = sets (codes "i") next_place ∷ []
-turn_from (suc left) index = Set (codes "s") (right.Call (function_name index) (variable (codes "s") ∷ [])) ∷ turn_from left (index + 1)
+turn_from (suc left) index =
+    Set (codes "s") (right.Call (function_name index) (variable (codes "s") ∷ [])) ∷ turn_from left (index + 1)
 
 abbrev pub turn : List Stmt
 turn = sets (codes "s") next_sum ∷ turn_from FUNCTIONS 0
@@ -101,21 +104,33 @@ main = record {
   void_word = false;
   parameters = [];
   body =
-      Declare kind.Int (codes "s") (Some (right.Value (number 0))) ∷ Declare kind.Int (codes "i") (Some (right.Value (number 0)))
+      Declare kind.Int (codes "s") (Some (right.Value (number 0))) ∷ Declare kind.Int (codes "i") (Some
+      (right.Value (number 0)))
       ∷ Loop (Some (record { min = 16; max = 16 })) (head.While in_array) turn
-      ∷ SetElement (codes "out") (number 0) (right.Value (variable (codes "s"))) ∷ Return (Some (variable (codes "s"))) ∷ [];
+      ∷ SetElement (codes "out") (number 0) (right.Value (variable (codes "s"))) ∷ Return (Some (variable (codes "s")))
+      ∷ [];
 }
 
 -- an array of words
 abbrev pub array : List ℕ → ℕ → Global
-array text length = record { scratch = false; kind = kind.Int; name = text; length = Some (record { value = length; unsigned = false }); initial = [] }
+array text length = record {
+  scratch = false;
+  kind = kind.Int;
+  name = text;
+  length = Some (record { value = length; unsigned = false });
+  initial = [];
+}
 
 -- the functions from an index on, whose draws begin at a state, and `main`
 abbrev pub functions_from : ℕ → ℕ → ℕ → List Item
 functions_from zero index x = item.Function main ∷ []
 functions_from (suc left) index x =
-    item.Function (function_of index (draw x % MASKS) (draw (next x) % VALUES) (draw (next (next x)) % VALUES)) ∷ functions_from left (index + 1) (after 3 x)
+    item.Function (function_of index (draw x % MASKS) (draw (next x) % VALUES) (draw (next (next x)) % VALUES))
+    ∷ functions_from left (index + 1) (after 3 x)
 
 -- the tree of the C text whose draws begin at a state
 abbrev pub tree_of : ℕ → Program
-tree_of x = record { items = item.Global (array (codes "in") 16) ∷ item.Global (array (codes "out") 1) ∷ functions_from FUNCTIONS 0 x }
+tree_of x = record {
+  items = item.Global (array (codes "in") 16) ∷ item.Global (array (codes "out") 1)
+      ∷ functions_from FUNCTIONS 0 x;
+}

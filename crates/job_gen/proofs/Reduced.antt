@@ -6,7 +6,8 @@ use Rattle.job_gen.specs.Generator.{after, after_functions, draw, function_line,
 
 functions_same : (x y : ℕ) → next x ≡ next y → functions FUNCTIONS 0 x ≡ functions FUNCTIONS 0 y
 unfolding functions function_line after
-functions_same x y same = ap (λ first. function_text 0 (first / 65536 % 8) (draw first % 1000) (draw (next first) % 1000) ++ functions 23 1 (next (next first))) same
+functions_same x y same = ap (λ first. function_text 0 (first / 65536 % 8) (draw first % 1000) (draw (next first)
+    % 1000) ++ functions 23 1 (next (next first))) same
 
 after_functions_same : (x y : ℕ) → next x ≡ next y → after_functions x ≡ after_functions y
 unfolding after

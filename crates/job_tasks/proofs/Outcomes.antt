@@ -6,12 +6,14 @@ use Rattle.job_tasks.specs.Answer.{read_fault}
 use Rattle.job_tasks.specs.Outcome.{Ends, HasWritten}
 
 -- an answer that is this one has its status, below those of faults of the outside
-pub below_if : {E : Type 0} (result : Result Answer E) (a : Answer) → IfOk result (λ x. x ≡ a) → a.status < 5 → IfOk result (λ x. x.status < 5)
+pub below_if : {E : Type 0} (result : Result Answer E) (a : Answer) → IfOk result (λ x. x ≡ a) → a.status < 5
+    → IfOk result (λ x. x.status < 5)
 below_if (Ok x) a is low = subst (λ y. y.status < 5) (sym is) low
 below_if (Err e) a is low = tt
 
 -- a sink that tells its bytes was handed a text
-HasWritten-Ends : (a : Answer) (failed : Type 0) (status faults faults' : ℕ) (taken taken' : Option (List ℕ)) → a.status < 5
+HasWritten-Ends : (a : Answer) (failed : Type 0) (status faults faults' : ℕ) (taken taken' : Option (List ℕ))
+    → a.status < 5
     → Ends a failed status faults faults' taken taken' → HasWritten a failed status taken taken'
 HasWritten-Ends a failed status faults faults' None taken' low ends = tt
 HasWritten-Ends a failed status faults faults' (Some t) None low ends = tt
@@ -71,7 +73,10 @@ HasWritten-Ends a failed status faults faults' (Some t) (Some t') low (inr (inr 
   },
 )
 
-pub written_if : (a : List ℕ → Answer) (failed : Type 0) (status faults faults' : ℕ) (taken taken' left : Option (List ℕ)) → ((bytes : List ℕ) → (a bytes).status < 5)
-    → IfSome left (λ bytes. Ends (a bytes) failed status faults faults' taken taken') → IfSome left (λ bytes. HasWritten (a bytes) failed status taken taken')
+pub written_if : (a : List ℕ → Answer) (failed : Type 0) (status faults faults' : ℕ)
+    (taken taken' left : Option (List ℕ)) → ((bytes : List ℕ) → (a bytes).status < 5)
+    → IfSome left (λ bytes. Ends (a bytes) failed status faults faults' taken taken')
+    → IfSome left (λ bytes. HasWritten (a bytes) failed status taken taken')
 written_if a failed status faults faults' taken taken' None low ends = tt
-written_if a failed status faults faults' taken taken' (Some bytes) low ends = HasWritten-Ends (a bytes) failed status faults faults' taken taken' (low bytes) ends
+written_if a failed status faults faults' taken taken' (Some bytes) low ends =
+    HasWritten-Ends (a bytes) failed status faults faults' taken taken' (low bytes) ends

@@ -7,7 +7,8 @@ use Rattle.patmos_model.specs.Apart.{site_of}
 use Rattle.tc_job.specs.declared.job.Job.{Job}
 use Rattle.job_tasks.specs.Sites.{site_on}
 
-pub same_site : (job : Job) (core start : ℕ) (place : Place) (image : Parts) → HasNumbers place job.cores core job.slot start → place.table ≡ job.table
+pub same_site : (job : Job) (core start : ℕ) (place : Place) (image : Parts)
+    → HasNumbers place job.cores core job.slot start → place.table ≡ job.table
     → site_of place image ≡ site_on job core start image
 same_site job core start place image h table = λ i. record {
   cores = h.cores_are i;

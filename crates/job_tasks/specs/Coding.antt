@@ -10,7 +10,7 @@ use Rattle.job_tasks.specs.declared.tasks.CodedTask.{CodedTask}
 use Rattle.job_tasks.specs.declared.tasks.CoreTask.{CoreTask}
 use Rattle.job_tasks.specs.declared.tasks.CoreTask.TheVariants as tasks
 use Rattle.job_tasks.specs.declared.tasks.MadeTask.{MadeTask}
-use Rattle.job_tasks.specs.declared.tasks.Program.{Program}
+use Rattle.job_tasks.specs.declared.program.Program.{Program}
 use Rattle.job_tasks.specs.Tasks.{Bounded, Made, Coded, Runs, nothing, assembly, program}
 
 abbrev pub bounded : Program → Bounded

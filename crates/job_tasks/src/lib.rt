@@ -25,6 +25,7 @@
 mod answers;
 mod calls;
 mod laws;
+mod program;
 mod ranged;
 mod refusal;
 mod tasks;
@@ -32,6 +33,7 @@ mod tasks;
 pub use answers::{Answer, READ_FAULT_LINE, TOO_LONG_LINE, no_job, whole};
 pub use calls::{MOST_BYTES, TextFault, finish, words_of};
 pub use laws::limits;
+pub use program::Program;
 pub use ranged::RangedJob;
 pub use refusal::{CoreRefusal, Halt, Refusal, refusal_answer};
-pub use tasks::{CodedTask, CoreTask, MadeTask, Program, coded_tasks};
+pub use tasks::{CodedTask, CoreTask, MadeTask, coded_tasks};

@@ -1,33 +1,20 @@
 //! The tasks of a job, and what each is made to.
 ghost use Rattle.std.specs.Prelude.{◌≡◌, All, None, IfOk, IfSome, length, option_map};
-ghost use Rattle.std.specs.List.{AllByRecursion as Each};
-ghost use Rattle.patmos_model.specs.Range.{HasCode, IsWord};
 ghost use Rattle.tc_job.specs.Ranges.{IsTaskAmong};
 ghost use Rattle.job_tasks.specs.Tasks as specs;
 ghost use Rattle.job_tasks.specs.Coding.{bounded, made_of, runs, shown, all_shown, HasShape, HasShapeOn, IsAmong};
 ghost use Rattle.job_tasks.specs.Gives.{Gives};
 ghost use Rattle.job_tasks.specs.Making.{IsCompiled, IsMadeOn, AreMade};
 
+use crate::program::Program;
 use crate::ranged::RangedJob;
 use crate::refusal::{CoreRefusal, Halt, Refusal};
 use c_compile::compile;
-use c_tree::Checked;
 use patmos_asm::{AsmError, Code, assemble, image_of};
 use patmos_code::Image;
 use patmos_model::{image_fits, words_fit};
-use sp_shape::Shape;
 use std::alloc::Global;
 use tc_job::{Job, Lang, Task};
-
-/// A C program, how many cycles it takes at most on its core, and by what stays in the method cache, and the shape of
-/// its code.
-#[derive(Drop)]
-pub struct Program {
-    pub checked: Checked,
-    pub bound: u64,
-    pub persist: u64,
-    pub shape: Shape,
-}
 
 /// What a task is made to: an image, and the program of a C task.
 #[derive(Drop)]
@@ -179,6 +166,7 @@ fn compiled(alloc: Global, job: &RangedJob, task: &Task) -> Result<MadeTask, Hal
         image: compiled.image,
         program: Some(Program {
             checked: compiled.program,
+            mentions: compiled.mentions,
             bound: compiled.bound,
             persist: compiled.persist,
             shape: compiled.shape,

@@ -8,7 +8,8 @@ use Rattle.method_cache.specs.Residents.{fits, resident, words_of}
 
 pub fits_push : (methods : List Method) (method : Method)
     → fits (methods ++ method ∷ []) ≡ (nat_le (length methods + 1) 16 && nat_le (words_of methods + method.words) 4096)
-fits_push methods method = rw (length-append methods (method ∷ []), sum_by_push (λ (m : Method). m.words) methods method) refl
+fits_push methods method =
+    rw (length-append methods (method ∷ []), sum_by_push (λ (m : Method). m.words) methods method) refl
 
 -- functions that do not fit do not fit with a further one either
 overfull : (methods : List Method) (method : Method) → fits methods ≡ false → fits (methods ++ method ∷ []) ≡ false
@@ -19,7 +20,8 @@ resident_keeps [] all = refl
 resident_keeps (oldest ∷ later) all = rw all refl
 
 -- what is in the cache after a further miss depends on what was in it
-pub resident_push : (misses : List Method) (method : Method) → resident (misses ++ method ∷ []) ≡ resident (resident misses ++ method ∷ [])
+pub resident_push : (misses : List Method) (method : Method) → resident (misses ++ method ∷ [])
+    ≡ resident (resident misses ++ method ∷ [])
 resident_push [] method = refl
 resident_push (oldest ∷ later) method =
     elim (cases_Bool (fits (oldest ∷ later))) [

@@ -23,18 +23,23 @@ op_long names off (op.Call n) = refl
 op_long names off (op.BranchFill n) = refl
 op_long names off _ = refl
 
-draft_long : (functions labels : Lookup) (off : ℕ) (d : Draft) → is_long (placed_op functions labels off d) ≡ is_long_draft d
+draft_long : (functions labels : Lookup) (off : ℕ) (d : Draft) → is_long (placed_op functions labels off d)
+    ≡ is_long_draft d
 draft_long functions labels off (ready o) = refl
 draft_long functions labels off (to Branch n) = refl
 draft_long functions labels off (to Call n) = refl
 draft_long functions labels off (to BranchFill n) = refl
 
-pub named_long : (names : ℕ → List ℕ) (functions labels : Lookup) (off : ℕ) (d : Draft) → is_long_draft (named_op names off (placed_op functions labels off d)) ≡ is_long_draft d
-named_long names functions labels off d = op_long names off (placed_op functions labels off d) ∙ draft_long functions labels off d
+pub named_long : (names : ℕ → List ℕ) (functions labels : Lookup) (off : ℕ) (d : Draft)
+    → is_long_draft (named_op names off (placed_op functions labels off d)) ≡ is_long_draft d
+named_long names functions labels off d =
+    op_long names off (placed_op functions labels off d) ∙ draft_long functions labels off d
 
 -- a bundle with names has as many words
-pub named_size : (names : ℕ → List ℕ) (functions labels : Lookup) (off : ℕ) (b : DraftBundle) → size_of (named names off (placed functions labels off b)) ≡ size_of b
-named_size names functions labels off b = ap (λ t. cond (t || is_some b.second) 2 1) (named_long names functions labels off b.first.draft)
+pub named_size : (names : ℕ → List ℕ) (functions labels : Lookup) (off : ℕ) (b : DraftBundle)
+    → size_of (named names off (placed functions labels off b)) ≡ size_of b
+named_size names functions labels off b =
+    ap (λ t. cond (t || is_some b.second) 2 1) (named_long names functions labels off b.first.draft)
 
 mark_names : (branched : ℕ → Bool) (off : ℕ) (is : List Item) → names_from (mark branched off ++ is) ≡ names_from is
 mark_names branched off is = by_test (branched off)
@@ -43,7 +48,8 @@ mark_names branched off is = by_test (branched off)
     by_test true = refl
     by_test false = refl
 
-mark_functions : (branched : ℕ → Bool) (off at : ℕ) (is : List Item) → functions_from at (mark branched off ++ is) ≡ functions_from at is
+mark_functions : (branched : ℕ → Bool) (off at : ℕ) (is : List Item) → functions_from at (mark branched off ++ is)
+    ≡ functions_from at is
 mark_functions branched off at is = by_test (branched off)
   where
     by_test : (t : Bool) → functions_from at (cond t (label 0 (label_name off) ∷ []) [] ++ is) ≡ functions_from at is
@@ -64,38 +70,54 @@ mark_alone branched off = by_test (branched off)
     by_test true = refl
     by_test false = refl
 
-pub same_names : (names : ℕ → List ℕ) (functions labels : Lookup) (branched : ℕ → Bool) (off : ℕ) (is : List Item) → names_from (relabeled names functions labels branched off is) ≡ names_from is
+pub same_names : (names : ℕ → List ℕ) (functions labels : Lookup) (branched : ℕ → Bool) (off : ℕ) (is : List Item)
+    → names_from (relabeled names functions labels branched off is) ≡ names_from is
 same_names names functions labels branched off [] = ap names_from (mark_alone branched off) ∙ mark_names branched off []
 same_names names functions labels branched off (function l n ∷ is) =
-    mark_names branched off (function 0 n ∷ relabeled names functions (place_of (labels_from 0 is)) (branched_of functions (place_of (labels_from 0 is)) is) 0 is)
-    ∙ ap (λ r. n ∷ r) (same_names names functions (place_of (labels_from 0 is)) (branched_of functions (place_of (labels_from 0 is)) is) 0 is)
+    mark_names branched off (function 0 n ∷ relabeled names functions (place_of (labels_from 0 is))
+    (branched_of functions (place_of (labels_from 0 is)) is) 0 is)
+    ∙ ap (λ r. n ∷ r) (same_names names functions (place_of (labels_from 0 is))
+    (branched_of functions (place_of (labels_from 0 is)) is) 0 is)
 same_names names functions labels branched off (label l n ∷ is) = same_names names functions labels branched off is
 same_names names functions labels branched off (bundle l b ∷ is) =
-    mark_names branched off (bundle 0 (named names off (placed functions labels off b)) ∷ relabeled names functions labels branched (off + size_of b) is)
+    mark_names branched off (bundle 0 (named names off (placed functions labels off b))
+    ∷ relabeled names functions labels branched (off + size_of b) is)
     ∙ same_names names functions labels branched (off + size_of b) is
 same_names names functions labels branched off (faulty l k ∷ is) = same_names names functions labels branched off is
 
-pub same_functions : (names : ℕ → List ℕ) (functions labels : Lookup) (branched : ℕ → Bool) (off at : ℕ) (is : List Item) →
+pub same_functions : (names : ℕ → List ℕ) (functions labels : Lookup) (branched : ℕ → Bool) (off at : ℕ)
+    (is : List Item) →
     functions_from at (relabeled names functions labels branched off is) ≡ functions_from at is
-same_functions names functions labels branched off at [] = ap (functions_from at) (mark_alone branched off) ∙ mark_functions branched off at []
+same_functions names functions labels branched off at [] =
+    ap (functions_from at) (mark_alone branched off) ∙ mark_functions branched off at []
 same_functions names functions labels branched off at (function l n ∷ is) =
-    mark_functions branched off at (function 0 n ∷ relabeled names functions (place_of (labels_from 0 is)) (branched_of functions (place_of (labels_from 0 is)) is) 0 is)
-    ∙ ap (λ r. (n, at + 1) ∷ r) (same_functions names functions (place_of (labels_from 0 is)) (branched_of functions (place_of (labels_from 0 is)) is) 0 (at + 1) is)
-same_functions names functions labels branched off at (label l n ∷ is) = same_functions names functions labels branched off at is
+    mark_functions branched off at (function 0 n ∷ relabeled names functions (place_of (labels_from 0 is))
+    (branched_of functions (place_of (labels_from 0 is)) is) 0 is)
+    ∙ ap (λ r. (n, at + 1) ∷ r) (same_functions names functions (place_of (labels_from 0 is))
+    (branched_of functions (place_of (labels_from 0 is)) is) 0 (at + 1) is)
+same_functions names functions labels branched off at (label l n ∷ is) =
+    same_functions names functions labels branched off at is
 same_functions names functions labels branched off at (bundle l b ∷ is) =
-    mark_functions branched off at (bundle 0 (named names off (placed functions labels off b)) ∷ relabeled names functions labels branched (off + size_of b) is)
-    ∙ ap (λ n. functions_from (at + n) (relabeled names functions labels branched (off + size_of b) is)) (named_size names functions labels off b)
+    mark_functions branched off at (bundle 0 (named names off (placed functions labels off b))
+    ∷ relabeled names functions labels branched (off + size_of b) is)
+    ∙ ap (λ n. functions_from (at + n) (relabeled names functions labels branched (off + size_of b) is))
+    (named_size names functions labels off b)
     ∙ same_functions names functions labels branched (off + size_of b) (at + size_of b) is
-same_functions names functions labels branched off at (faulty l k ∷ is) = same_functions names functions labels branched off at is
+same_functions names functions labels branched off at (faulty l k ∷ is) =
+    same_functions names functions labels branched off at is
 
-pub same_size : (names : ℕ → List ℕ) (functions labels : Lookup) (branched : ℕ → Bool) (off : ℕ) (is : List Item) → size_from (relabeled names functions labels branched off is) ≡ size_from is
+pub same_size : (names : ℕ → List ℕ) (functions labels : Lookup) (branched : ℕ → Bool) (off : ℕ) (is : List Item)
+    → size_from (relabeled names functions labels branched off is) ≡ size_from is
 same_size names functions labels branched off [] = ap size_from (mark_alone branched off) ∙ mark_size branched off []
 same_size names functions labels branched off (function l n ∷ is) =
-    mark_size branched off (function 0 n ∷ relabeled names functions (place_of (labels_from 0 is)) (branched_of functions (place_of (labels_from 0 is)) is) 0 is)
+    mark_size branched off (function 0 n ∷ relabeled names functions (place_of (labels_from 0 is))
+    (branched_of functions (place_of (labels_from 0 is)) is) 0 is)
 same_size names functions labels branched off (label l n ∷ is) = same_size names functions labels branched off is
 same_size names functions labels branched off (bundle l b ∷ is) =
-    mark_size branched off (bundle 0 (named names off (placed functions labels off b)) ∷ relabeled names functions labels branched (off + size_of b) is)
-    ∙ ap (λ n. n + size_from (relabeled names functions labels branched (off + size_of b) is)) (named_size names functions labels off b)
+    mark_size branched off (bundle 0 (named names off (placed functions labels off b))
+    ∷ relabeled names functions labels branched (off + size_of b) is)
+    ∙ ap (λ n. n + size_from (relabeled names functions labels branched (off + size_of b) is)) (named_size names
+    functions labels off b)
     ∙ ap (λ n. size_of b + n) (same_size names functions labels branched (off + size_of b) is)
 same_size names functions labels branched off (faulty l k ∷ is) = same_size names functions labels branched off is
 
@@ -125,24 +147,29 @@ digit_in_name b e = grind (arith, nat_tests)
 
 digits_in_name : (ds : List ℕ) → list_all is_digit ds ≡ true → list_all is_in_name ds ≡ true
 digits_in_name [] e = refl
-digits_in_name (b ∷ ds) e = let t = and_parts (is_digit b) (list_all is_digit ds) e in rw (digit_in_name b t.0, digits_in_name ds t.1) refl
+digits_in_name (b ∷ ds) e =
+    let t = and_parts (is_digit b) (list_all is_digit ds) e in rw (digit_in_name b t.0, digits_in_name ds t.1) refl
 
 -- the label of an offset is a name
 pub label_is_name : (n : ℕ) → n < 2 ^ 64 → is_name (label_name n) ≡ true
 label_is_name n h = digits_in_name (decimal n) (decimal_numeral n h).digits
 
-above_when : (t : Bool) (at q : ℕ) (o : Option ℕ) → cond t (Some (at + 1)) o ≡ Some q → (o ≡ Some q → at + 1 < q) → at < q
+above_when : (t : Bool) (at q : ℕ) (o : Option ℕ) → cond t (Some (at + 1)) o ≡ Some q
+    → (o ≡ Some q → at + 1 < q) → at < q
 above_when true at q o e rest = let k : at + 1 ≡ q = cc in omega arith
 above_when false at q o e rest = let r : at + 1 < q = rest e in omega arith
 
 place_above : (at : ℕ) (is : List Item) (name : List ℕ) (q : ℕ) → place_of (functions_from at is) name ≡ Some q → at < q
 place_above at [] name q e = cc
-place_above at (function l n ∷ is) name q e = above_when (bytes_eq name n) at q (place_of (functions_from (at + 1) is) name) e (place_above (at + 1) is name q)
+place_above at (function l n ∷ is) name q e =
+    above_when (bytes_eq name n) at q (place_of (functions_from (at + 1) is) name) e (place_above (at + 1) is name q)
 place_above at (label l n ∷ is) name q e = place_above at is name q e
-place_above at (bundle l b ∷ is) name q e = let r : at + size_of b < q = place_above (at + size_of b) is name q e in omega arith
+place_above at (bundle l b ∷ is) name q e =
+    let r : at + size_of b < q = place_above (at + size_of b) is name q e in omega arith
 place_above at (faulty l k ∷ is) name q e = place_above at is name q e
 
-name_when : (t : Bool) (at q : ℕ) (name n : List ℕ) (o : Option ℕ) (fs : List (ℕ × List ℕ)) → bytes_eq name n ≡ t → cond t (Some (at + 1)) o ≡ Some q → (o ≡ Some q → (at + 1 < q) × (name_at fs q ≡ name)) →
+name_when : (t : Bool) (at q : ℕ) (name n : List ℕ) (o : Option ℕ) (fs : List (ℕ × List ℕ)) → bytes_eq name n ≡ t
+    → cond t (Some (at + 1)) o ≡ Some q → (o ≡ Some q → (at + 1 < q) × (name_at fs q ≡ name)) →
     name_at ((at + 1, n) ∷ fs) q ≡ name
 name_when true at q name n o fs h e rest =
     let k : q ≡ at + 1 = cc in
@@ -154,10 +181,12 @@ name_when false at q name n o fs h e rest =
     rw other r.1
 
 -- the name at the place of a function is that function's
-pub names_back : (at : ℕ) (is : List Item) (name : List ℕ) (q : ℕ) → place_of (functions_from at is) name ≡ Some q → name_at (starts_with_names at is) q ≡ name
+pub names_back : (at : ℕ) (is : List Item) (name : List ℕ) (q : ℕ) → place_of (functions_from at is) name ≡ Some q
+    → name_at (starts_with_names at is) q ≡ name
 names_back at [] name q e = cc
 names_back at (function l n ∷ is) name q e =
-    name_when (bytes_eq name n) at q name n (place_of (functions_from (at + 1) is) name) (starts_with_names (at + 1) is) refl e
+    name_when (bytes_eq name n) at q name n (place_of (functions_from (at + 1) is) name)
+    (starts_with_names (at + 1) is) refl e
     (λ r. (place_above (at + 1) is name q r, names_back (at + 1) is name q r))
 names_back at (label l n ∷ is) name q e = names_back at is name q e
 names_back at (bundle l b ∷ is) name q e = names_back (at + size_of b) is name q e

@@ -33,7 +33,8 @@ pub line_read : (line : ℕ) (at : Where) (text rest : List ℕ) → stays at te
 line_read line at [] rest e = scanned-end line 10 at rest (newline_ends at)
 line_read line at (b ∷ bs) rest e =
     let t = both_not (is_end at b) (is_comment (after_byte at b)) (stays (after_byte at b) bs) e in
-    scanned-byte line b at (bs ++ 10 ∷ rest) t.0 t.1 ∙ ap (put_before (b ∷ [])) (line_read line (after_byte at b) bs rest t.2)
+    scanned-byte line b at (bs ++ 10 ∷ rest) t.0 t.1 ∙ ap (put_before (b ∷ [])) (line_read line
+    (after_byte at b) bs rest t.2)
 
 pub line_stated : (line : ℕ) (text rest : List ℕ) → stays Plain text ≡ true →
     statements_of line (text ++ 10 ∷ rest) ≡ kept line text (statements_of (line + 1) rest)
@@ -57,7 +58,8 @@ none_of false false false false false true g h = cc
 none_of false false false false false false true h = cc
 none_of false false false false false false false h = (refl, refl, refl, refl, refl, refl, refl)
 
-pub harmless_stays : (at : Where) (text rest : List ℕ) → is_comment at ≡ false → list_all is_harmless text ≡ true → stays at (text ++ rest) ≡ stays at rest
+pub harmless_stays : (at : Where) (text rest : List ℕ) → is_comment at ≡ false → list_all is_harmless text ≡ true
+    → stays at (text ++ rest) ≡ stays at rest
 harmless_stays at [] rest plain e = refl
 harmless_stays Plain (b ∷ bs) rest plain e =
     let t = and_parts (is_harmless b) (list_all is_harmless bs) e in
@@ -81,7 +83,8 @@ harmless_byte s b e f = by_test (b == s) refl
     by_test false h = refl
 
 -- harmless bytes are none of those that are not
-pub harmless_lacks : (s : ℕ) (text : List ℕ) → is_harmless s ≡ false → list_all is_harmless text ≡ true → lacks s text ≡ true
+pub harmless_lacks : (s : ℕ) (text : List ℕ) → is_harmless s ≡ false → list_all is_harmless text ≡ true
+    → lacks s text ≡ true
 harmless_lacks s [] f e = refl
 harmless_lacks s (b ∷ bs) f e =
     let t = and_parts (is_harmless b) (list_all is_harmless bs) e in
@@ -95,7 +98,8 @@ sign_byte s b bs e = by_test (b == s) e
     by_test true e = cc
     by_test false e = refl
 
-blank_byte : (s b : ℕ) (bs : List ℕ) (t : Bool) → is_blank b ≡ t → not (b == s) ≡ true → sign_at s bs ≡ None → sign_at s (b ∷ bs) ≡ None
+blank_byte : (s b : ℕ) (bs : List ℕ) (t : Bool) → is_blank b ≡ t → not (b == s) ≡ true → sign_at s bs ≡ None
+    → sign_at s (b ∷ bs) ≡ None
 blank_byte s b bs true h e rest = rw h rest
 blank_byte s b bs false h e rest = rw h (sign_byte s b bs e)
 
@@ -110,15 +114,18 @@ lacks_drop s zero text e = e
 lacks_drop s (suc k) [] e = refl
 lacks_drop s (suc k) (b ∷ bs) e = lacks_drop s k bs (and_parts (not (b == s)) (lacks s bs) e).1
 
-lacks_blank : (s b : ℕ) (bs : List ℕ) (t : Bool) → is_blank b ≡ t → lacks s (b ∷ bs) ≡ true → lacks s (without_blanks bs) ≡ true → lacks s (without_blanks (b ∷ bs)) ≡ true
+lacks_blank : (s b : ℕ) (bs : List ℕ) (t : Bool) → is_blank b ≡ t → lacks s (b ∷ bs) ≡ true
+    → lacks s (without_blanks bs) ≡ true → lacks s (without_blanks (b ∷ bs)) ≡ true
 lacks_blank s b bs true h e rest = rw h rest
 lacks_blank s b bs false h e rest = rw h e
 
 pub lacks_blanks : (s : ℕ) (text : List ℕ) → lacks s text ≡ true → lacks s (without_blanks text) ≡ true
 lacks_blanks s [] e = refl
-lacks_blanks s (b ∷ bs) e = lacks_blank s b bs (is_blank b) refl e (lacks_blanks s bs (and_parts (not (b == s)) (lacks s bs) e).1)
+lacks_blanks s (b ∷ bs) e =
+    lacks_blank s b bs (is_blank b) refl e (lacks_blanks s bs (and_parts (not (b == s)) (lacks s bs) e).1)
 
-chosen_none : (b : Bool) (name : List ℕ) (o : Option (List ℕ)) → o ≡ None → cond b (option_map {U = List ℕ × List ℕ} (λ (rest : List ℕ). (name, rest)) o) None ≡ None
+chosen_none : (b : Bool) (name : List ℕ) (o : Option (List ℕ)) → o ≡ None → cond b (option_map {U = List ℕ × List ℕ}
+    (λ (rest : List ℕ). (name, rest)) o) None ≡ None
 chosen_none true name o e = rw e refl
 chosen_none false name o e = refl
 
@@ -126,4 +133,5 @@ chosen_none false name o e = refl
 pub no_colon : (text : List ℕ) → lacks 58 text ≡ true → label_at text ≡ None
 no_colon text e =
     chosen_none (is_name (word_at text).0) (word_at text).0 (sign_at 58 (word_at text).1)
-    (lacks_sign 58 (word_at text).1 (lacks_drop 58 (word_len (without_blanks text)) (without_blanks text) (lacks_blanks 58 text e)))
+    (lacks_sign 58 (word_at text).1 (lacks_drop 58 (word_len (without_blanks text)) (without_blanks text)
+    (lacks_blanks 58 text e)))

@@ -17,7 +17,8 @@ use Rattle.patmos_syntax.specs.Forms.{below, guard_of, op_of}
 use Rattle.patmos_asm.proofs.ReadForms.{is_flow}
 
 -- a chain that ends well went well
-pub bind_ok : {A B : Type 0} (r : Result A AsmKind) (f : A → Result B AsmKind) (y : B) → (r >>= f) ≡ Ok y → (x : A) × (r ≡ Ok x) × (f x ≡ Ok y)
+pub bind_ok : {A B : Type 0} (r : Result A AsmKind) (f : A → Result B AsmKind) (y : B) → (r >>= f) ≡ Ok y → (x : A)
+    × (r ≡ Ok x) × (f x ≡ Ok y)
 bind_ok (Ok x) f y e = (x, refl, e)
 bind_ok (Err k) f y e = cc
 
@@ -38,7 +39,8 @@ guard_ok n p g e =
     pred_or (Ok g) d = g.pred
     pred_or (Err k) d = d
 
-three_ok : (l m n a b c : ℕ) (f : ℕ → ℕ → ℕ → Op) (P : Op → Type 0) (o : Op) → ((x y z : ℕ) → x < l → y < m → z < n → P (f x y z)) →
+three_ok : (l m n a b c : ℕ) (f : ℕ → ℕ → ℕ → Op) (P : Op → Type 0) (o : Op) → ((x y z : ℕ) → x < l → y < m → z < n
+    → P (f x y z)) →
     (below l a >>= λ x. below m b >>= λ y. below n c >>= λ z. Ok (f x y z)) ≡ Ok o → P o
 three_ok l m n a b c f P o fits e =
     let t = bind_ok (below l a) (λ x. below m b >>= λ y. below n c >>= λ z. Ok (f x y z)) o e in
@@ -59,18 +61,24 @@ abbrev IsPlain : Op → Type 0
 IsPlain o = FitsOp o × (is_flow o ≡ false)
 
 pub op_fits : (form : Form) (vs : List ℕ) (o : Op) → op_of form vs ≡ Ok o → IsPlain o
-op_fits (AluReg f) (d ∷ a ∷ b ∷ []) o e = three_ok 32 32 32 d a b (op.AluReg f) IsPlain o (λ x y z p q r. ((p, q, r), refl)) e
-op_fits (AluImm f) (d ∷ a ∷ n ∷ []) o e = three_ok 32 32 4096 d a n (op.AluImm f) IsPlain o (λ x y z p q r. ((p, q, r), refl)) e
-op_fits (AluLong f) (d ∷ a ∷ n ∷ []) o e = three_ok 32 32 (2 ^ 32) d a n (op.AluLong f) IsPlain o (λ x y z p q r. ((p, q, r), refl)) e
+op_fits (AluReg f) (d ∷ a ∷ b ∷ []) o e =
+    three_ok 32 32 32 d a b (op.AluReg f) IsPlain o (λ x y z p q r. ((p, q, r), refl)) e
+op_fits (AluImm f) (d ∷ a ∷ n ∷ []) o e =
+    three_ok 32 32 4096 d a n (op.AluImm f) IsPlain o (λ x y z p q r. ((p, q, r), refl)) e
+op_fits (AluLong f) (d ∷ a ∷ n ∷ []) o e =
+    three_ok 32 32 (2 ^ 32) d a n (op.AluLong f) IsPlain o (λ x y z p q r. ((p, q, r), refl)) e
 op_fits (Mul u) (a ∷ b ∷ []) o e = two_ok 32 32 a b (op.Mul u) IsPlain o (λ x y p q. ((p, q), refl)) e
 op_fits (Cmp f) (d ∷ a ∷ b ∷ []) o e = three_ok 8 32 32 d a b (op.Cmp f) IsPlain o (λ x y z p q r. ((p, q, r), refl)) e
-op_fits (CmpImm f) (d ∷ a ∷ n ∷ []) o e = three_ok 8 32 32 d a n (op.CmpImm f) IsPlain o (λ x y z p q r. ((p, q, r), refl)) e
+op_fits (CmpImm f) (d ∷ a ∷ n ∷ []) o e =
+    three_ok 8 32 32 d a n (op.CmpImm f) IsPlain o (λ x y z p q r. ((p, q, r), refl)) e
 op_fits (Stack f) (n ∷ []) o e =
     let t = bind_ok (below 4096 n) (λ x. Ok (op.Stack f x)) o e in
     let k : op.Stack f t.0 ≡ o = cc in
     subst IsPlain k (below_ok 4096 n t.0 t.1, refl)
-op_fits (Load w m) (d ∷ a ∷ n ∷ []) o e = three_ok 32 32 128 d a n (λ x y z. op.Load m w x y z) IsPlain o (λ x y z p q r. ((p, q, r), refl)) e
-op_fits (Store w m) (a ∷ n ∷ s ∷ []) o e = three_ok 32 128 32 a n s (λ x y z. op.Store m w x z y) IsPlain o (λ x y z p q r. ((p, r, q), refl)) e
+op_fits (Load w m) (d ∷ a ∷ n ∷ []) o e =
+    three_ok 32 32 128 d a n (λ x y z. op.Load m w x y z) IsPlain o (λ x y z p q r. ((p, q, r), refl)) e
+op_fits (Store w m) (a ∷ n ∷ s ∷ []) o e =
+    three_ok 32 128 32 a n s (λ x y z. op.Store m w x z y) IsPlain o (λ x y z p q r. ((p, r, q), refl)) e
 op_fits (Comb f) (d ∷ m ∷ a ∷ n ∷ b ∷ []) o e =
     let t = bind_ok (below 8 d) (λ x. guard_of m a >>= λ ga. guard_of n b >>= λ gb. Ok (op.Comb f x ga gb)) o e in
     let u = bind_ok (guard_of m a) (λ ga. guard_of n b >>= λ gb. Ok (op.Comb f t.0 ga gb)) o t.2 in
@@ -78,7 +86,8 @@ op_fits (Comb f) (d ∷ m ∷ a ∷ n ∷ b ∷ []) o e =
     let k : op.Comb f t.0 u.0 v.0 ≡ o = cc in
     subst IsPlain k ((below_ok 8 d t.0 t.1, guard_ok m a u.0 u.1, guard_ok n b v.0 v.1), refl)
 op_fits ToSpecial (s ∷ a ∷ []) o e =
-    let t = bind_ok (ok_or (slice_get writable_specials s) Range) (λ x. below 32 a >>= λ ra. Ok (op.ToSpecial x ra)) o e in
+    let t = bind_ok (ok_or (slice_get writable_specials s) Range) (λ x. below 32 a >>= λ ra. Ok (op.ToSpecial x ra)) o
+    e in
     let u = bind_ok (below 32 a) (λ ra. Ok (op.ToSpecial t.0 ra)) o t.2 in
     let k : op.ToSpecial t.0 u.0 ≡ o = cc in
     subst IsPlain k (below_ok 32 a u.0 u.1, refl)
@@ -88,5 +97,6 @@ op_fits FromSpecial (d ∷ s ∷ []) o e =
     let k : op.FromSpecial t.0 u.0 ≡ o = cc in
     subst IsPlain k (below_ok 32 d t.0 t.1, refl)
 op_fits Return [] o e = let k : op.Return ≡ o = cc in subst IsPlain k (tt, refl)
-op_fits Nop [] o e = let k : op.AluImm imm.Add 0 0 0 ≡ o = cc in subst IsPlain k ((omega arith, omega arith, omega arith), refl)
+op_fits Nop [] o e =
+    let k : op.AluImm imm.Add 0 0 0 ≡ o = cc in subst IsPlain k ((omega arith, omega arith, omega arith), refl)
 op_fits _ _ o e = cc

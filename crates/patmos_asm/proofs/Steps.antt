@@ -15,11 +15,13 @@ item_first items item i within is =
     ap shown_items first
 
 -- after a statement without a fault the first fault is that of the rest
-pub fault_step : (functions labels labels' : Lookup) (before before' : Before) (items : List code.Item) (item : code.Item) (i : ℕ) →
+pub fault_step : (functions labels labels' : Lookup) (before before' : Before) (items : List code.Item)
+    (item : code.Item) (i : ℕ) →
     i < length items → item ≡ get_or items i item → fault_of functions labels before (shown_item item) ≡ None →
     ((q : List ℕ) → labels' q ≡ labels_after labels (shown_item item) (shown_items (drop (i + 1) items)) q) →
     before' ≡ after before (shown_item item) →
-    first_fault functions labels' before' (shown_items (drop (i + 1) items)) ≡ first_fault functions labels before (shown_items (drop i items))
+    first_fault functions labels' before' (shown_items (drop (i + 1) items))
+    ≡ first_fault functions labels before (shown_items (drop i items))
 fault_step functions labels labels' before before' items item i within is none same next =
     let known : labels' ≡ labels_after labels (shown_item item) (shown_items (drop (i + 1) items)) = λ k q. same q k in
     rw (item_first items item i within is, none, known, next) refl
@@ -27,10 +29,12 @@ fault_step functions labels labels' before before' items item i within is none s
 size_small : (b : DraftBundle) → size_of b ≤ 2
 size_small b = grind arith
 
-grows : (before : Before) (item : Item) → ((after before item).size ≤ before.size + 2) × ((after before item).image ≤ before.image + 2)
+grows : (before : Before) (item : Item) → ((after before item).size ≤ before.size + 2)
+    × ((after before item).image ≤ before.image + 2)
 grows before (bundle _ b) = let s : size_of b ≤ 2 = size_small b in (omega arith, omega arith)
 grows before _ = (omega arith, omega arith)
 
 -- a statement adds at most two words
-pub grown : (before before' : Before) (item : Item) → before' ≡ after before item → (before'.size ≤ before.size + 2) × (before'.image ≤ before.image + 2)
+pub grown : (before before' : Before) (item : Item) → before' ≡ after before item → (before'.size ≤ before.size + 2)
+    × (before'.image ≤ before.image + 2)
 grown before before' item next = rw next (grows before item)

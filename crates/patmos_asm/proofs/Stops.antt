@@ -31,25 +31,31 @@ stops_here off (label l n ∷ is) = stops_here off is
 stops_here off (bundle l b ∷ is) = inl refl
 stops_here off (faulty l k ∷ is) = stops_here off is
 
-stop_when : (t : Bool) (off p : ℕ) (is : List Item) (o : Option ℕ) → cond t (Some off) o ≡ Some p → (o ≡ Some p → IsStop p off is) → IsStop p off is
+stop_when : (t : Bool) (off p : ℕ) (is : List Item) (o : Option ℕ) → cond t (Some off) o ≡ Some p
+    → (o ≡ Some p → IsStop p off is) → IsStop p off is
 stop_when true off p is o e rest = let k : off ≡ p = cc in subst (λ q. IsStop q off is) k (stops_here off is)
 stop_when false off p is o e rest = rest e
 
 -- a label stands at a stop
-pub label_stops : (off : ℕ) (is : List Item) (name : List ℕ) (p : ℕ) → place_of (labels_from off is) name ≡ Some p → IsStop p off is
+pub label_stops : (off : ℕ) (is : List Item) (name : List ℕ) (p : ℕ) → place_of (labels_from off is) name ≡ Some p
+    → IsStop p off is
 label_stops off [] name p e = cc
 label_stops off (function l n ∷ is) name p e = cc
-label_stops off (label l n ∷ is) name p e = stop_when (bytes_eq name n) off p is (place_of (labels_from off is) name) e (label_stops off is name p)
+label_stops off (label l n ∷ is) name p e =
+    stop_when (bytes_eq name n) off p is (place_of (labels_from off is) name) e (label_stops off is name p)
 label_stops off (bundle l b ∷ is) name p e = inr (label_stops (off + size_of b) is name p e)
 label_stops off (faulty l k ∷ is) name p e = label_stops off is name p e
 
-mark_here : (branched : ℕ → Bool) (off : ℕ) (is : List Item) → branched off ≡ true → place_of (labels_from off (mark branched off ++ is)) (label_name off) ≡ Some off
+mark_here : (branched : ℕ → Bool) (off : ℕ) (is : List Item) → branched off ≡ true
+    → place_of (labels_from off (mark branched off ++ is)) (label_name off) ≡ Some off
 mark_here branched off is e = rw (e, bytes_eq_refl (label_name off)) refl
 
-mark_there : (branched : ℕ → Bool) (off p : ℕ) (is : List Item) → off < 2 ^ 64 → p < 2 ^ 64 → p ≢ off → place_of (labels_from off (mark branched off ++ is)) (label_name p) ≡ place_of (labels_from off is) (label_name p)
+mark_there : (branched : ℕ → Bool) (off p : ℕ) (is : List Item) → off < 2 ^ 64 → p < 2 ^ 64 → p ≢ off
+    → place_of (labels_from off (mark branched off ++ is)) (label_name p) ≡ place_of (labels_from off is) (label_name p)
 mark_there branched off p is h k n = by_test (branched off)
   where
-    by_test : (t : Bool) → place_of (labels_from off (cond t (label 0 (label_name off) ∷ []) [] ++ is)) (label_name p) ≡ place_of (labels_from off is) (label_name p)
+    by_test : (t : Bool) → place_of (labels_from off (cond t (label 0 (label_name off) ∷ []) [] ++ is)) (label_name p)
+        ≡ place_of (labels_from off is) (label_name p)
     by_test true = let a : bytes_eq (label_name p) (label_name off) ≡ false = label_apart p off k h n in rw a refl
     by_test false = refl
 
@@ -57,39 +63,53 @@ stop_same : (p off : ℕ) (t : Bool) → p == off ≡ t → (p ≡ off) ⊎ (p �
 stop_same p off true e = inl (grind (arith, nat_tests))
 stop_same p off false e = inr (λ k. let same : p == off ≡ true = grind (arith, nat_tests) in cc)
 
-mark_last : (branched : ℕ → Bool) (off : ℕ) → branched off ≡ true → place_of (labels_from off (mark branched off)) (label_name off) ≡ Some off
+mark_last : (branched : ℕ → Bool) (off : ℕ) → branched off ≡ true → place_of (labels_from off (mark branched off))
+    (label_name off) ≡ Some off
 mark_last branched off e = rw (e, bytes_eq_refl (label_name off)) refl
 
-bundle_marked : (branched : ℕ → Bool) (off p : ℕ) (d : DraftBundle) (r : List Item) (size : ℕ) (is : List Item) → size_of d ≡ size → off < 2 ^ 64 → p < 2 ^ 64 → (p ≡ off) ⊎ IsStop p (off + size) is → branched p ≡ true →
-    (IsStop p (off + size) is → place_of (labels_from (off + size) r) (label_name p) ≡ Some p) → place_of (labels_from off (mark branched off ++ bundle 0 d ∷ r)) (label_name p) ≡ Some p
+bundle_marked : (branched : ℕ → Bool) (off p : ℕ) (d : DraftBundle) (r : List Item) (size : ℕ) (is : List Item)
+    → size_of d ≡ size → off < 2 ^ 64 → p < 2 ^ 64 → (p ≡ off) ⊎ IsStop p (off + size) is → branched p ≡ true →
+    (IsStop p (off + size) is → place_of (labels_from (off + size) r) (label_name p) ≡ Some p)
+    → place_of (labels_from off (mark branched off ++ bundle 0 d ∷ r)) (label_name p) ≡ Some p
 bundle_marked branched off p d r size is z h k s e rest =
     elim s [
-      | inl here ↦ subst (λ q. place_of (labels_from off (mark branched off ++ bundle 0 d ∷ r)) (label_name q) ≡ Some q) (sym here) (mark_here branched off (bundle 0 d ∷ r) (subst (λ q. branched q ≡ true) here e))
+      | inl here ↦ subst (λ q. place_of (labels_from off (mark branched off ++ bundle 0 d ∷ r)) (label_name q) ≡ Some q)
+          (sym here) (mark_here branched off (bundle 0 d ∷ r) (subst (λ q. branched q ≡ true) here e))
       | inr there ↦ behind (stop_same p off (p == off) refl) there
     ]
   where
-    behind : (p ≡ off) ⊎ (p ≢ off) → IsStop p (off + size) is → place_of (labels_from off (mark branched off ++ bundle 0 d ∷ r)) (label_name p) ≡ Some p
-    behind (inl here) there = subst (λ q. place_of (labels_from off (mark branched off ++ bundle 0 d ∷ r)) (label_name q) ≡ Some q) (sym here) (mark_here branched off (bundle 0 d ∷ r) (subst (λ q. branched q ≡ true) here e))
-    behind (inr other) there = mark_there branched off p (bundle 0 d ∷ r) h k other ∙ ap (λ n. place_of (labels_from (off + n) r) (label_name p)) z ∙ rest there
+    behind : (p ≡ off) ⊎ (p ≢ off) → IsStop p (off + size) is
+        → place_of (labels_from off (mark branched off ++ bundle 0 d ∷ r)) (label_name p) ≡ Some p
+    behind (inl here) there = subst (λ q. place_of (labels_from off (mark branched off ++ bundle 0 d ∷ r))
+        (label_name q) ≡ Some q) (sym here) (mark_here branched off (bundle 0 d ∷ r)
+        (subst (λ q. branched q ≡ true) here e))
+    behind (inr other) there = mark_there branched off p (bundle 0 d ∷ r) h k other
+        ∙ ap (λ n. place_of (labels_from (off + n) r) (label_name p)) z ∙ rest there
 
 -- where a stop is branched to, its label stands there
-pub stop_marked : (names : ℕ → List ℕ) (functions labels : Lookup) (branched : ℕ → Bool) (off p : ℕ) (is : List Item) → Faultless functions labels off is → p < 2 ^ 64 → IsStop p off is → branched p ≡ true →
+pub stop_marked : (names : ℕ → List ℕ) (functions labels : Lookup) (branched : ℕ → Bool) (off p : ℕ) (is : List Item)
+    → Faultless functions labels off is → p < 2 ^ 64 → IsStop p off is → branched p ≡ true →
     place_of (labels_from off (relabeled names functions labels branched off is)) (label_name p) ≡ Some p
 stop_marked names functions labels branched off p [] f h s e =
     let k : off ≡ p = sym s in
-    subst (λ q. place_of (labels_from off (mark branched off)) (label_name q) ≡ Some q) k (mark_last branched off (subst (λ q. branched q ≡ true) s e))
+    subst (λ q. place_of (labels_from off (mark branched off)) (label_name q) ≡ Some q) k
+    (mark_last branched off (subst (λ q. branched q ≡ true) s e))
 stop_marked names functions labels branched off p (function l n ∷ is) f h s e =
     let k : off ≡ p = sym s in
-    let r : List Item = function 0 n ∷ relabeled names functions (place_of (labels_from 0 is)) (branched_of functions (place_of (labels_from 0 is)) is) 0 is in
-    subst (λ q. place_of (labels_from off (mark branched off ++ r)) (label_name q) ≡ Some q) k (mark_here branched off r (subst (λ q. branched q ≡ true) s e))
-stop_marked names functions labels branched off p (label l n ∷ is) f h s e = stop_marked names functions labels branched off p is (rest_faultless functions labels off (label l n) is f) h s e
+    let r : List Item = function 0 n ∷ relabeled names functions (place_of (labels_from 0 is)) (branched_of functions
+    (place_of (labels_from 0 is)) is) 0 is in
+    subst (λ q. place_of (labels_from off (mark branched off ++ r)) (label_name q) ≡ Some q) k
+    (mark_here branched off r (subst (λ q. branched q ≡ true) s e))
+stop_marked names functions labels branched off p (label l n ∷ is) f h s e =
+    stop_marked names functions labels branched off p is (rest_faultless functions labels off (label l n) is f) h s e
 stop_marked names functions labels branched off p (faulty l k ∷ is) f h s e = let none = f.none in cc
 stop_marked names functions labels branched off p (bundle l b ∷ is) f h s e =
     let r : List Item = relabeled names functions labels branched (off + size_of b) is in
     let d : DraftBundle = named names off (placed functions labels off b) in
     let small : off ≤ 4096 = f.within.offset in
     bundle_marked branched off p d r (size_of b) is (named_size names functions labels off b) (omega arith) h s e
-    (λ t. stop_marked names functions labels branched (off + size_of b) p is (rest_faultless functions labels off (bundle l b) is f) h t e)
+    (λ t. stop_marked names functions labels branched (off + size_of b) p is (rest_faultless functions labels off
+    (bundle l b) is f) h t e)
 
 -- the printed operation is the same, with the places of the printed names
 pub way_back : (p off : ℕ) → natural (pos off +ℤ (pos p -ℤ pos off)) ≡ p
@@ -109,14 +129,17 @@ abbrev pub IsMarked : Lookup → (ℕ → Bool) → Draft → Type 0
 IsMarked labels branched (to Branch name) = (p : ℕ) → labels name ≡ Some p → branched p ≡ true
 IsMarked labels branched _ = Unit {0}
 
-plain_same : (names : ℕ → List ℕ) (functions printed : Lookup) (off : ℕ) (o : Op) → is_flow o ≡ false → placed_op functions printed off (named_op names off o) ≡ o
+plain_same : (names : ℕ → List ℕ) (functions printed : Lookup) (off : ℕ) (o : Op) → is_flow o ≡ false
+    → placed_op functions printed off (named_op names off o) ≡ o
 plain_same names functions printed off (op.Branch z) e = cc
 plain_same names functions printed off (op.Call n) e = cc
 plain_same names functions printed off (op.BranchFill n) e = cc
 plain_same names functions printed off _ e = refl
 
-pub op_same : (names : ℕ → List ℕ) (functions labels printed : Lookup) (branched : ℕ → Bool) (off : ℕ) (d : Draft) → Keeps names functions labels printed branched → IsMarked labels branched d → IsPrintableDraft d →
-    is_known functions labels d ≡ true → placed_op functions printed off (named_op names off (placed_op functions labels off d)) ≡ placed_op functions labels off d
+pub op_same : (names : ℕ → List ℕ) (functions labels printed : Lookup) (branched : ℕ → Bool) (off : ℕ) (d : Draft)
+    → Keeps names functions labels printed branched → IsMarked labels branched d → IsPrintableDraft d →
+    is_known functions labels d ≡ true → placed_op functions printed off (named_op names off
+    (placed_op functions labels off d)) ≡ placed_op functions labels off d
 op_same names functions labels printed branched off (ready o) k m f e = plain_same names functions printed off o f.1
 op_same names functions labels printed branched off (to Branch name) k m f e =
     let t = known_place (labels name) e in
@@ -132,14 +155,17 @@ op_same names functions labels printed branched off (to BranchFill name) k m f e
     rw (t.1, at) refl
 
 -- and its names are known
-plain_known : (names : ℕ → List ℕ) (functions printed : Lookup) (off : ℕ) (o : Op) → is_flow o ≡ false → is_known functions printed (named_op names off o) ≡ true
+plain_known : (names : ℕ → List ℕ) (functions printed : Lookup) (off : ℕ) (o : Op) → is_flow o ≡ false
+    → is_known functions printed (named_op names off o) ≡ true
 plain_known names functions printed off (op.Branch z) e = cc
 plain_known names functions printed off (op.Call n) e = cc
 plain_known names functions printed off (op.BranchFill n) e = cc
 plain_known names functions printed off _ e = refl
 
-pub known_same : (names : ℕ → List ℕ) (functions labels printed : Lookup) (branched : ℕ → Bool) (off : ℕ) (d : Draft) → Keeps names functions labels printed branched → IsMarked labels branched d → IsPrintableDraft d →
-    is_known functions labels d ≡ true → is_known functions printed (named_op names off (placed_op functions labels off d)) ≡ true
+pub known_same : (names : ℕ → List ℕ) (functions labels printed : Lookup) (branched : ℕ → Bool) (off : ℕ) (d : Draft)
+    → Keeps names functions labels printed branched → IsMarked labels branched d → IsPrintableDraft d →
+    is_known functions labels d ≡ true → is_known functions printed (named_op names off
+    (placed_op functions labels off d)) ≡ true
 known_same names functions labels printed branched off (ready o) k m f e = plain_known names functions printed off o f.1
 known_same names functions labels printed branched off (to Branch name) k m f e =
     let t = known_place (labels name) e in
@@ -156,4 +182,5 @@ known_same names functions labels printed branched off (to BranchFill name) k m 
 
 -- each bundle's target is branched to
 abbrev pub AllMarked : Lookup → Lookup → (ℕ → Bool) → ℕ → List Item → Type 0
-AllMarked functions labels branched off is = (n : ℕ) → is_target n (targets_of (bundles_in functions labels off is)) ≡ true → branched n ≡ true
+AllMarked functions labels branched off is =
+    (n : ℕ) → is_target n (targets_of (bundles_in functions labels off is)) ≡ true → branched n ≡ true

@@ -40,7 +40,8 @@ offset_back : (o : ℤ) → FitsOff22 o → offset_of (offset_bits o) ≡ o
 offset_back (pos n) f = grind (arith, nat_tests)
 offset_back (negsuc n) f = grind (arith, nat_tests)
 
-imm_first : (f : ImmFunc) (w c : ℕ) → op_of (imm_func_number f) w c ≡ Some (AluImm f (five_bits 17 w) (five_bits 12 w) (w % 2 ^ 12))
+imm_first : (f : ImmFunc) (w c : ℕ) → op_of (imm_func_number f) w c
+    ≡ Some (AluImm f (five_bits 17 w) (five_bits 12 w) (w % 2 ^ 12))
 imm_first f w c =
     elim f as (λ g. op_of (imm_func_number g) w c ≡ Some (AluImm g (five_bits 17 w) (five_bits 12 w) (w % 2 ^ 12)))
     [ imm.Add ↦ refl | _ ↦ refl ]
@@ -196,10 +197,13 @@ instr_back i h c same =
     rw (guard_back i.guard h.0 (instr_code i / 2 ^ 27) g, o) (grind (arith, nat_tests))
 
 accepted_taken : (w c : ℕ) (o : Option Op) (g : Guard) → FitsGuard g → IfSome o (λ op. FitsOp op × HasConstant op c) →
-    IfSome (accepted w (option_map (λ op. record { guard = g; op = op }) o)) (λ i. FitsInstr i × HasConstant i.op c × (instr_code i ≡ w))
+    IfSome (accepted w (option_map (λ op. record { guard = g; op = op }) o)) (λ i. FitsInstr i × HasConstant i.op c
+    × (instr_code i ≡ w))
 accepted_taken w c None g f h = tt
 accepted_taken w c (Some op) g f h = search (rules, nat_tests)
 
 -- an instruction that is accepted has the word as its code
-pub instr_taken : (w c : ℕ) → c < 2 ^ 32 → IfSome (instr_at w c) (λ i. FitsInstr i × HasConstant i.op c × (instr_code i ≡ w))
-instr_taken w c h = accepted_taken w c (op_of (five_bits 22 w) w c) (guard_of (w / 2 ^ 27)) (omega arith) (op_taken (five_bits 22 w) w c h)
+pub instr_taken : (w c : ℕ) → c < 2 ^ 32 → IfSome (instr_at w c) (λ i. FitsInstr i × HasConstant i.op c
+    × (instr_code i ≡ w))
+instr_taken w c h = accepted_taken w c (op_of (five_bits 22 w) w c) (guard_of (w / 2 ^ 27)) (omega arith)
+    (op_taken (five_bits 22 w) w c h)

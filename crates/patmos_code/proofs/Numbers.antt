@@ -43,13 +43,15 @@ pub pred_func_small : (x : PredFunc) → pred_func_number x < 3
 pred_func_small x = grind (arith, common_steps)
 
 pub pred_func_back : (x : PredFunc) → slice_get pred_funcs (pred_func_number x) ≡ Some x
-pred_func_back x = elim x as (λ y. slice_get pred_funcs (pred_func_number y) ≡ Some y) [ pred_func.Por ↦ refl | _ ↦ refl ]
+pred_func_back x =
+    elim x as (λ y. slice_get pred_funcs (pred_func_number y) ≡ Some y) [ pred_func.Por ↦ refl | _ ↦ refl ]
 
 pub stack_func_small : (x : StackFunc) → stack_func_number x < 3
 stack_func_small x = grind (arith, common_steps)
 
 pub stack_func_back : (x : StackFunc) → slice_get stack_funcs (stack_func_number x) ≡ Some x
-stack_func_back x = elim x as (λ y. slice_get stack_funcs (stack_func_number y) ≡ Some y) [ stack_func.Sres ↦ refl | _ ↦ refl ]
+stack_func_back x =
+    elim x as (λ y. slice_get stack_funcs (stack_func_number y) ≡ Some y) [ stack_func.Sres ↦ refl | _ ↦ refl ]
 
 pub special_small : (x : Special) → special_number x < 7
 special_small x = grind (arith, common_steps)
@@ -61,7 +63,8 @@ pub writable_special_small : (x : WritableSpecial) → writable_special_number x
 writable_special_small x = grind (arith, common_steps)
 
 pub writable_special_back : (x : WritableSpecial) → slice_get writable_specials (writable_special_number x) ≡ Some x
-writable_special_back x = elim x as (λ y. slice_get writable_specials (writable_special_number y) ≡ Some y) [ writable.S0 ↦ refl | _ ↦ refl ]
+writable_special_back x =
+    elim x as (λ y. slice_get writable_specials (writable_special_number y) ≡ Some y) [ writable.S0 ↦ refl | _ ↦ refl ]
 
 pub mem_small : (x : Mem) → mem_number x < 4
 mem_small x = grind (arith, common_steps)
@@ -82,4 +85,5 @@ pub store_width_small : (x : StoreWidth) → store_width_number x < 3
 store_width_small x = grind (arith, common_steps)
 
 pub store_width_back : (x : StoreWidth) → slice_get store_widths (store_width_number x) ≡ Some x
-store_width_back x = elim x as (λ y. slice_get store_widths (store_width_number y) ≡ Some y) [ store_width.Word ↦ refl | _ ↦ refl ]
+store_width_back x =
+    elim x as (λ y. slice_get store_widths (store_width_number y) ≡ Some y) [ store_width.Word ↦ refl | _ ↦ refl ]

@@ -29,7 +29,8 @@ rising (w ∷ ws) at zero (suc i) (suc j) l h = rising ws (at + 1) w i j (omega 
 rising (w ∷ ws) at (suc skip) i j l h = rising ws (at + 1) skip i j l h
 
 -- a word after the first of a list is a word of the rest, whose first word has the next place
-next_word : (w : ℕ) (ws : List ℕ) (at s : ℕ) → at + 1 < s → get_or (w ∷ ws) (s - 1 - at) 0 ≡ get_or ws (s - 1 - (at + 1)) 0
+next_word : (w : ℕ) (ws : List ℕ) (at s : ℕ) → at + 1 < s → get_or (w ∷ ws) (s - 1 - at) 0
+    ≡ get_or ws (s - 1 - (at + 1)) 0
 next_word w ws at s h =
     let e : s - 1 - at ≡ suc (s - 1 - (at + 1)) = omega arith in
     ap (λ k. get_or (w ∷ ws) k 0) e
@@ -42,9 +43,11 @@ inside (w ∷ ws) at zero zero e h =
     rw z (omega (arith, not_lacking ws w e))
 inside (w ∷ ws) at zero (suc k) e h =
     let l : k < length (starts_from (at + 1) w ws) = omega arith in
-    rw (next_word w ws at (get_or (starts_from (at + 1) w ws) k 0) (after ws (at + 1) w k l)) (omega (arith, inside ws (at + 1) w k e l))
+    rw (next_word w ws at (get_or (starts_from (at + 1) w ws) k 0) (after ws (at + 1) w k l))
+    (omega (arith, inside ws (at + 1) w k e l))
 inside (w ∷ ws) at (suc skip) k e h =
-    rw (next_word w ws at (get_or (starts_from (at + 1) skip ws) k 0) (after ws (at + 1) skip k h)) (omega (arith, inside ws (at + 1) skip k e h))
+    rw (next_word w ws at (get_or (starts_from (at + 1) skip ws) k 0) (after ws (at + 1) skip k h))
+    (omega (arith, inside ws (at + 1) skip k e h))
 
 -- the word before a function's first is the size that the walk meets there
 size_before : (ws : List ℕ) (at skip k : ℕ) → k < length (starts_from at skip ws) →
@@ -57,7 +60,8 @@ size_before (w ∷ ws) at zero (suc k) h =
     let l : k < length (starts_from (at + 1) w ws) = omega arith in
     next_word w ws at (get_or (starts_from (at + 1) w ws) k 0) (after ws (at + 1) w k l) ∙ size_before ws (at + 1) w k l
 size_before (w ∷ ws) at (suc skip) k h =
-    next_word w ws at (get_or (starts_from (at + 1) skip ws) k 0) (after ws (at + 1) skip k h) ∙ size_before ws (at + 1) skip k h
+    next_word w ws at (get_or (starts_from (at + 1) skip ws) k 0) (after ws (at + 1) skip k h)
+    ∙ size_before ws (at + 1) skip k h
 
 as_many : (ws : List ℕ) (at skip : ℕ) → length (sizes_from skip ws) ≡ length (starts_from at skip ws)
 as_many [] at skip = refl
@@ -87,25 +91,33 @@ pub function_inside : (words starts : List ℕ) (start : ℕ) → starts ≡ sta
 function_inside words starts start e whole sizes c =
     let found : slice_index starts c.0 ≡ start = get_or_default starts c.0 0 start c.1 ∙ c.2 in
     let at : IsFunction words (slice_index starts c.0) =
-    subst (λ xs. IsFunction words (slice_index xs c.0)) (sym e) (function_at words whole sizes c.0 (subst (λ xs. c.0 < length xs) e c.1)) in
+    subst (λ xs. IsFunction words (slice_index xs c.0)) (sym e) (function_at words whole sizes c.0
+    (subst (λ xs. c.0 < length xs) e c.1)) in
     subst (IsFunction words) found at
 
-not_found : (xs : List ℕ) (x i : ℕ) → ((k : ℕ) → k < i → get_or xs k 0 < x) → ((k : ℕ) → i ≤ k → k < length xs → x < get_or xs k 0) → ¬ Contains xs x
+not_found : (xs : List ℕ) (x i : ℕ) → ((k : ℕ) → k < i → get_or xs k 0 < x) → ((k : ℕ) → i ≤ k → k < length xs
+    → x < get_or xs k 0) → ¬ Contains xs x
 not_found xs x i before behind c =
     let e : get_or xs c.0 0 ≡ x = get_or_default xs c.0 0 x c.1 ∙ c.2 in
     elim (cases_lt c.0 i) [ inl l ↦ omega (arith, before c.0 l) | inr g ↦ omega (arith, behind c.0 g c.1) ]
 
 never_falls : (xs : List ℕ) → IsRising xs → (i j : ℕ) → i ≤ j → j < length xs → get_or xs i 0 ≤ get_or xs j 0
 never_falls xs rise i j l h =
-    elim (cases_lt i j) [ inl p ↦ omega (arith, rise.rises i j p h) | inr p ↦ let e : i ≡ j = omega arith in rw e (omega arith) ]
+    elim (cases_lt i j) [
+      | inl p ↦ omega (arith, rise.rises i j p h)
+      | inr p ↦ let e : i ≡ j = omega arith in
+          rw e (omega arith)
+    ]
 
 -- a binary search among places that rise finds a place exactly where it is there
-pub searched_start : (xs : List ℕ) (x : ℕ) (r : Result ℕ ℕ) → IsBinarySearchResult (λ y. nat_cmp y x) xs r → IsRising xs →
+pub searched_start : (xs : List ℕ) (x : ℕ) (r : Result ℕ ℕ) → IsBinarySearchResult (λ y. nat_cmp y x) xs r
+    → IsRising xs →
     MatchResult r (λ _. Contains xs x) (λ _. ¬ Contains xs x)
 searched_start xs x (Ok i) s rise =
     let t : (i < length xs) × (get_or xs i 0 ≡ x) = searched xs x (Ok i) s (never_falls xs rise) in
     (i, t.0, get_or_default xs i x 0 t.0 ∙ t.1)
 searched_start xs x (Err i) s rise =
-    let t : (i ≤ length xs) × ((k : ℕ) → k < i → get_or xs k 0 < x) × ((k : ℕ) → i ≤ k → k < length xs → x < get_or xs k 0) =
+    let t : (i ≤ length xs) × ((k : ℕ) → k < i → get_or xs k 0 < x) × ((k : ℕ) → i ≤ k → k < length xs
+    → x < get_or xs k 0) =
     searched xs x (Err i) s (never_falls xs rise) in
     not_found xs x i t.1 t.2

@@ -28,20 +28,25 @@ use Rattle.patmos_model.specs.Outcome.{word_in, state_at}
 use Rattle.patmos_model.proofs.Idle.{idle_stands}
 
 -- a core that stands before a cycle is its run apart after the cycles below it
-stood : (n core : ℕ) (x y : Core) (made : List Operation) (cycle : ℕ) → core < n → Stands (act_at turn n) n core x made (2 * cycle * n) y
+stood : (n core : ℕ) (x y : Core) (made : List Operation) (cycle : ℕ) → core < n
+    → Stands (act_at turn n) n core x made (2 * cycle * n) y
     → apart turn n core x (loads made) cycle ≡ record { core = y; left = []; made = made }
 stood n core x y made cycle among stands =
-    ap (λ l. apart turn n core x l cycle) (sym (append-nil (loads made))) ∙ stands_by_cycles turn n core x made cycle y among stands []
+    ap (λ l. apart turn n core x l cycle) (sym (append-nil (loads made)))
+    ∙ stands_by_cycles turn n core x made cycle y among stands []
 
 -- a core with a task
-task_at_limit : (t : Tasked) (limit : ℕ) (x : Core) (made : List Operation) → t.cycle ≡ limit → t.phase ≡ Delivery → (on : IsOn t x made)
+task_at_limit : (t : Tasked) (limit : ℕ) (x : Core) (made : List Operation) → t.cycle ≡ limit → t.phase ≡ Delivery
+    → (on : IsOn t x made)
     → (apart_from x (loads made) limit).core ≡ core_of t.body on.seen
 task_at_limit t limit x made here whole on =
     ap (λ n. (apart turn n x.plain.site.core x (loads made) limit).core) on.cores
     ∙ ap (λ c. (apart turn t.body.place.cores c x (loads made) limit).core) on.core
-    ∙ ap (λ a. a.core) (stood t.body.place.cores t.body.place.core x (core_of t.body on.seen) made limit t.body.place.in_range.among
+    ∙ ap (λ a. a.core) (stood t.body.place.cores t.body.place.core x (core_of t.body on.seen) made limit
+    t.body.place.in_range.among
     (subst (λ cycle. IsThere t.body.place.cores t.body.place.core cycle Delivery x made (core_of t.body on.seen)) here
-    (subst (λ phase. IsThere t.body.place.cores t.body.place.core t.cycle phase x made (core_of t.body on.seen)) whole on.there)))
+    (subst (λ phase. IsThere t.body.place.cores t.body.place.core t.cycle phase x made (core_of t.body on.seen))
+    whole on.there)))
 
 -- a core without one
 idle_at_limit : (place : Place) (limit : ℕ) (x : Core) (made : List Operation) → (rests : IsResting place x made)
@@ -49,7 +54,8 @@ idle_at_limit : (place : Place) (limit : ℕ) (x : Core) (made : List Operation)
 idle_at_limit place limit x made rests =
     ap (λ l. (apart_from x (loads l) limit).core) rests.none
     ∙ ap (λ y. (apart_from y [] limit).core) rests.is
-    ∙ ap (λ a. a.core) (stood place.cores place.core (idle (site_of place rests.image)) (idle (site_of place rests.image)) [] limit place.in_range.among
+    ∙ ap (λ a. a.core) (stood place.cores place.core (idle (site_of place rests.image))
+    (idle (site_of place rests.image)) [] limit place.in_range.among
     (idle_stands place.cores place.core (site_of place rests.image) limit place.in_range.among))
 
 -- an idle core's words are all 0
@@ -75,7 +81,8 @@ module _ (k : Cpu) (x : Core) (made : List Operation) where
   task_tells t is through stands = by
       (subst (IsThroughAt k.limit) is through) (subst (StandsIn x made) is stands)
     where
-      by : (t.cycle ≡ k.limit) × (t.phase ≡ Delivery) → IsOn t x made → (apart_from x (loads made) k.limit).core.plain ≡ plain_of t.body
+      by : (t.cycle ≡ k.limit) × (t.phase ≡ Delivery) → IsOn t x made → (apart_from x (loads made) k.limit).core.plain
+          ≡ plain_of t.body
       by done on = ap (λ c. c.plain) (task_at_limit t k.limit x made done.0 done.1 on)
 
   pub task_traces : (t : Tasked) → k.kind ≡ WithTask t → IsThrough k → StandsFor k x made
@@ -83,30 +90,38 @@ module _ (k : Cpu) (x : Core) (made : List Operation) where
   task_traces t is through stands = by
       (subst (IsThroughAt k.limit) is through) (subst (StandsIn x made) is stands)
     where
-      by : (t.cycle ≡ k.limit) × (t.phase ≡ Delivery) → IsOn t x made → t.body.trace.items ≡ take (room_of k) (apart_from x (loads made) k.limit).core.seen.accesses
+      by : (t.cycle ≡ k.limit) × (t.phase ≡ Delivery) → IsOn t x made → t.body.trace.items
+          ≡ take (room_of k) (apart_from x (loads made) k.limit).core.seen.accesses
       by done on =
           on.shows.trace
           ∙ ap (λ c. take t.body.room c.seen.accesses) (sym (task_at_limit t k.limit x made done.0 done.1 on))
           ∙ ap (λ kind. take (room_in kind) (apart_from x (loads made) k.limit).core.seen.accesses) (sym is)
 
   -- what a core with a task tells
-  pub task_state : (t : Tasked) (resumed : CoreState) → k.kind ≡ WithTask t → resumed ≡ state_at k.limit (plain_of t.body) → IsThrough k → StandsFor k x made
+  pub task_state : (t : Tasked) (resumed : CoreState) → k.kind ≡ WithTask t → resumed
+      ≡ state_at k.limit (plain_of t.body) → IsThrough k → StandsFor k x made
       → resumed ≡ state_at (limit_of k) (apart_from x (loads made) (limit_of k)).core.plain
-  task_state t resumed is is_resumed through stands = is_resumed ∙ ap (state_at k.limit) (sym (task_tells t is through stands))
+  task_state t resumed is is_resumed through stands =
+      is_resumed ∙ ap (state_at k.limit) (sym (task_tells t is through stands))
 
-  pub task_dropped : (t : Tasked) (resumed : ℕ) → k.kind ≡ WithTask t → resumed ≡ t.body.ni.interface.dropped → IsThrough k → StandsFor k x made
+  pub task_dropped : (t : Tasked) (resumed : ℕ) → k.kind ≡ WithTask t → resumed ≡ t.body.ni.interface.dropped
+      → IsThrough k → StandsFor k x made
       → resumed ≡ (apart_from x (loads made) (limit_of k)).core.plain.interface.dropped
-  task_dropped t resumed is is_resumed through stands = is_resumed ∙ ap (λ p. p.interface.dropped) (sym (task_tells t is through stands))
+  task_dropped t resumed is is_resumed through stands =
+      is_resumed ∙ ap (λ p. p.interface.dropped) (sym (task_tells t is through stands))
 
-  pub task_word : (t : Tasked) (c : Cell) (resumed : ℕ) → k.kind ≡ WithTask t → resumed ≡ word_in c (plain_of t.body) → IsThrough k → StandsFor k x made
+  pub task_word : (t : Tasked) (c : Cell) (resumed : ℕ) → k.kind ≡ WithTask t → resumed ≡ word_in c (plain_of t.body)
+      → IsThrough k → StandsFor k x made
       → resumed ≡ word_in c (apart_from x (loads made) (limit_of k)).core.plain
-  task_word t c resumed is is_resumed through stands = is_resumed ∙ ap (word_in c) (sym (task_tells t is through stands))
+  task_word t c resumed is is_resumed through stands =
+      is_resumed ∙ ap (word_in c) (sym (task_tells t is through stands))
 
   idle_tells : (place : Place) → k.kind ≡ Idle place → StandsFor k x made
       → (image : Parts) × ((apart_from x (loads made) (limit_of k)).core ≡ idle (site_of place image))
   idle_tells place is stands = by (subst (StandsIn x made) is stands)
     where
-      by : IsResting place x made → (image : Parts) × ((apart_from x (loads made) k.limit).core ≡ idle (site_of place image))
+      by : IsResting place x made → (image : Parts) × ((apart_from x (loads made) k.limit).core
+          ≡ idle (site_of place image))
       by rests = (rests.image, idle_at_limit place k.limit x made rests)
 
   -- what an idle core tells
@@ -121,5 +136,6 @@ module _ (k : Cpu) (x : Core) (made : List Operation) where
   pub idle_word : (place : Place) (cell : Cell) → k.kind ≡ Idle place → StandsFor k x made
       → 0 ≡ word_in cell (apart_from x (loads made) (limit_of k)).core.plain
   idle_word place cell is stands =
-      let h : (image : Parts) × ((apart_from x (loads made) (limit_of k)).core ≡ idle (site_of place image)) = idle_tells place is stands in
+      let h : (image : Parts) × ((apart_from x (loads made) (limit_of k)).core ≡ idle (site_of place image)) =
+      idle_tells place is stands in
       sym (ap (λ c. word_in cell c.plain) h.1 ∙ no_words cell (site_of place h.0))

@@ -24,37 +24,53 @@ use Rattle.patmos_model.proofs.Idle.{idle_stands}
 use Rattle.patmos_core.proofs.Moving.{delivery_whole, whole_completion, act_whole, whole_next, stamp_below}
 
 -- the event of a part has all of its stamp, but for what is left of a narrow store
-whole_in : (n core : ℕ) (x : Core) (made : List Operation) (cycle limit : ℕ) (phase : Phase) (y : Core) (e : Event) → core < n → cycle < limit
-    → e.stamp ≡ stamp n core cycle (stamp_phase phase) → AsksIn phase cycle y e → LeavesIn phase cycle y e → IsThere n core cycle phase x made y
+whole_in : (n core : ℕ) (x : Core) (made : List Operation) (cycle limit : ℕ) (phase : Phase) (y : Core) (e : Event)
+    → core < n → cycle < limit
+    → e.stamp ≡ stamp n core cycle (stamp_phase phase) → AsksIn phase cycle y e → LeavesIn phase cycle y e
+    → IsThere n core cycle phase x made y
     → (more : List ℕ) → IsWholeIn made (apart turn n core x (loads made ++ more) limit).made e more
-whole_in n core x made cycle limit Delivery y e among early is asks leaves there = delivery_whole n core x cycle among limit early e made y is asks there
-whole_in n core x made cycle limit Act y e among early is asks leaves there = act_whole n core x cycle among limit early e made y is asks leaves there
-whole_in n core x made cycle limit (Completion pending_store) y e among early is asks leaves there = whole_completion n core x cycle among limit early e made y pending_store is asks there
+whole_in n core x made cycle limit Delivery y e among early is asks leaves there =
+    delivery_whole n core x cycle among limit early e made y is asks there
+whole_in n core x made cycle limit Act y e among early is asks leaves there =
+    act_whole n core x cycle among limit early e made y is asks leaves there
+whole_in n core x made cycle limit (Completion pending_store) y e among early is asks leaves there =
+    whole_completion n core x cycle among limit early e made y pending_store is asks there
 
 -- the run apart of a core is that at its own place
-at_place : (x : Core) (n core : ℕ) (values : List ℕ) (t : ℕ) → x.plain.site.cores ≡ n → x.plain.site.core ≡ core → apart turn n core x values t ≡ apart_from x values t
+at_place : (x : Core) (n core : ℕ) (values : List ℕ) (t : ℕ) → x.plain.site.cores ≡ n → x.plain.site.core ≡ core
+    → apart turn n core x values t ≡ apart_from x values t
 at_place x n core values t cores among = λ i. apart turn (sym cores i) (sym among i) x values t
 
-pub whole_of : (t : Tasked) (e : Event) (x : Core) (made : List Operation) (limit : ℕ) → t.cycle < limit → IsAskedAt t e → IsOn t x made → IsWholeOf x made limit e
+pub whole_of : (t : Tasked) (e : Event) (x : Core) (made : List Operation) (limit : ℕ) → t.cycle < limit → IsAskedAt t e
+    → IsOn t x made → IsWholeOf x made limit e
 whole_of t e x made limit early asked on = λ more.
     subst (λ (a : Alone Core). IsWholeIn made a.made e more)
     (at_place x t.body.place.cores t.body.place.core (loads made ++ more) limit on.cores on.core)
-    (whole_in t.body.place.cores t.body.place.core x made t.cycle limit t.phase (core_of t.body on.seen) e t.body.place.in_range.among early asked.stamp
+    (whole_in t.body.place.cores t.body.place.core x made t.cycle limit t.phase (core_of t.body on.seen) e
+    t.body.place.in_range.among early asked.stamp
     (asked.asks on.seen on.shows) (asked.leaves on.seen on.shows) on.there more)
 
 -- so it comes next
-pub next_of : (t : Tasked) (e : Event) (x : Core) (made : List Operation) (limit : ℕ) → t.cycle < limit → IsAskedAt t e → IsOn t x made → IsNextOf x made limit e
-next_of t e x made limit early asked on = λ more. whole_next made (apart_from x (loads made ++ more) limit).made e more (whole_of t e x made limit early asked on more)
+pub next_of : (t : Tasked) (e : Event) (x : Core) (made : List Operation) (limit : ℕ) → t.cycle < limit → IsAskedAt t e
+    → IsOn t x made → IsNextOf x made limit e
+next_of t e x made limit early asked on = λ more. whole_next made (apart_from x (loads made ++ more) limit).made e more
+    (whole_of t e x made limit early asked on more)
 
 phase_low : (phase : Phase) → stamp_phase phase ≤ 1
 phase_low Delivery = omega arith
 phase_low Act = omega arith
 phase_low (Completion pending_store) = omega arith
 
-pub fits_at : (t : Tasked) (e : Event) (x : Core) (limit : ℕ) → t.cycle < limit → IsAskedAt t e → IsOfPlace t.body.place e → EventFits t.body.place limit e
+pub fits_at : (t : Tasked) (e : Event) (x : Core) (limit : ℕ) → t.cycle < limit → IsAskedAt t e
+    → IsOfPlace t.body.place e → EventFits t.body.place limit e
 fits_at t e x limit early asked of_place = record {
   core = of_place.core;
-  below = omega (arith, asked.stamp, stamp_below t.body.place.cores t.body.place.core x t.cycle t.body.place.in_range.among limit early (stamp_phase t.phase) (phase_low t.phase));
+  below = omega (
+    arith,
+    asked.stamp,
+    stamp_below t.body.place.cores t.body.place.core x t.cycle
+        t.body.place.in_range.among limit early (stamp_phase t.phase) (phase_low t.phase),
+  );
   some = of_place.some;
   words = of_place.words;
   unread = of_place.unread;
@@ -62,30 +78,46 @@ fits_at t e x limit early asked of_place = record {
 }
 
 -- at the limit a core has made all
-all_made : (n core : ℕ) (x y : Core) (made : List Operation) (limit : ℕ) → core < n → x.plain.site.cores ≡ n → x.plain.site.core ≡ core
-    → Stands (act_at turn n) n core x made (2 * limit * n) y → (more : List ℕ) → apart_from x (loads made ++ more) limit ≡ record { core = y; left = more; made = made }
+all_made : (n core : ℕ) (x y : Core) (made : List Operation) (limit : ℕ) → core < n → x.plain.site.cores ≡ n
+    → x.plain.site.core ≡ core
+    → Stands (act_at turn n) n core x made (2 * limit * n) y → (more : List ℕ) → apart_from x (loads made ++ more) limit
+    ≡ record { core = y; left = more; made = made }
 all_made n core x y made limit among cores is stands more =
-    sym (at_place x n core (loads made ++ more) limit cores is) ∙ stands_by_cycles turn n core x made limit y among stands more
+    sym (at_place x n core (loads made ++ more) limit cores is)
+    ∙ stands_by_cycles turn n core x made limit y among stands more
 
 -- and the values besides do not matter
-any_more : (x y : Core) (made : List Operation) (limit : ℕ) → ((more : List ℕ) → apart_from x (loads made ++ more) limit ≡ record { core = y; left = more; made = made }) → HasMadeAll x made limit
+any_more : (x y : Core) (made : List Operation) (limit : ℕ) → ((more : List ℕ) → apart_from x (loads made ++ more) limit
+    ≡ record { core = y; left = more; made = made }) → HasMadeAll x made limit
 any_more x y made limit all = λ more.
-    all more ∙ ap (λ z. record { core = z; left = more; made = made }) (sym (ap (λ (a : Alone Core). a.core) (ap (λ values. apart_from x values limit) (sym (append-nil (loads made))) ∙ all [])))
+    all more ∙ ap (λ z. record { core = z; left = more; made = made }) (sym (ap (λ (a : Alone Core). a.core)
+    (ap (λ values. apart_from x values limit) (sym (append-nil (loads made))) ∙ all [])))
 
-pub task_made_all : (t : Tasked) (x : Core) (made : List Operation) (limit : ℕ) → t.cycle ≡ limit → t.phase ≡ Delivery → IsOn t x made → HasMadeAll x made limit
+pub task_made_all : (t : Tasked) (x : Core) (made : List Operation) (limit : ℕ) → t.cycle ≡ limit → t.phase ≡ Delivery
+    → IsOn t x made → HasMadeAll x made limit
 task_made_all t x made limit is whole on =
     any_more x (core_of t.body on.seen) made limit
-    (all_made t.body.place.cores t.body.place.core x (core_of t.body on.seen) made limit t.body.place.in_range.among on.cores on.core
-    (subst (λ q. Stands (act_at turn t.body.place.cores) t.body.place.cores t.body.place.core x made (2 * q * t.body.place.cores) (core_of t.body on.seen)) is
-    (subst (λ p. IsThere t.body.place.cores t.body.place.core t.cycle p x made (core_of t.body on.seen)) whole on.there)))
+    (all_made t.body.place.cores t.body.place.core x (core_of t.body on.seen) made limit t.body.place.in_range.among
+    on.cores on.core
+    (subst (λ q. Stands (act_at turn t.body.place.cores) t.body.place.cores t.body.place.core x made
+    (2 * q * t.body.place.cores) (core_of t.body on.seen)) is
+    (subst (λ p. IsThere t.body.place.cores t.body.place.core t.cycle p x made (core_of t.body on.seen))
+    whole on.there)))
 
-pub idle_made_all : (place : Place) (x : Core) (made : List Operation) (limit : ℕ) → IsResting place x made → HasMadeAll x made limit
+pub idle_made_all : (place : Place) (x : Core) (made : List Operation) (limit : ℕ) → IsResting place x made
+    → HasMadeAll x made limit
 idle_made_all place x made limit rests =
     let y : Core = idle (site_of place rests.image) in
     any_more x y made limit
-    (subst (λ z. (more : List ℕ) → apart_from z (loads made ++ more) limit ≡ record { core = y; left = more; made = made }) (sym rests.is)
-    (subst (λ os. (more : List ℕ) → apart_from y (loads os ++ more) limit ≡ record { core = y; left = more; made = os }) (sym rests.none)
-    (all_made place.cores place.core y y [] limit place.in_range.among refl refl (idle_stands place.cores place.core (site_of place rests.image) limit place.in_range.among))))
+    (subst (λ z. (more : List ℕ) → apart_from z (loads made ++ more) limit ≡ record {
+      core = y;
+      left = more;
+      made = made;
+    }) (sym rests.is)
+    (subst (λ os. (more : List ℕ) → apart_from y (loads os ++ more) limit ≡ record { core = y; left = more; made = os })
+    (sym rests.none)
+    (all_made place.cores place.core y y [] limit place.in_range.among refl refl (idle_stands place.cores place.core
+    (site_of place rests.image) limit place.in_range.among))))
 
 -- ---- an event that was found, or none
 

@@ -50,17 +50,20 @@ use Rattle.patmos_model.proofs.Leaves.{Leaves}
 
 -- ---- programs
 
--- each load and store of the program names a word that may be named, loads give values of a kind, stores store them, and
+-- each load and store of the program names a word that may be named, loads give values of a kind, stores store them,
+-- and
 -- what the program leaves is good
 abbrev pub Keeps : {X : Type 0} → (ℕ → Type 0) → (ℕ → Type 0) → (X → Type 0) → Prog X → Type 0
 Keeps May Kind Good (done x) = Good x
 Keeps May Kind Good (get word go_on) = May word × ((value : ℕ) → Kind value → Keeps May Kind Good (go_on value))
 Keeps May Kind Good (set word value rest) = May word × Kind value × Keeps May Kind Good rest
 
-pub keeps_then : {X Y : Type 0} (May Kind : ℕ → Type 0) (P : X → Type 0) (Q : Y → Type 0) (next : X → Prog Y) → ((x : X) → P x → Keeps May Kind Q (next x)) → (p : Prog X) → Keeps May Kind P p
+pub keeps_then : {X Y : Type 0} (May Kind : ℕ → Type 0) (P : X → Type 0) (Q : Y → Type 0) (next : X → Prog Y)
+    → ((x : X) → P x → Keeps May Kind Q (next x)) → (p : Prog X) → Keeps May Kind P p
     → Keeps May Kind Q (and_then p next)
 keeps_then May Kind P Q next on (done x) h = on x h
-keeps_then May Kind P Q next on (get word go_on) h = (h.0, λ value kind. keeps_then May Kind P Q next on (go_on value) (h.1 value kind))
+keeps_then May Kind P Q next on (get word go_on) h =
+    (h.0, λ value kind. keeps_then May Kind P Q next on (go_on value) (h.1 value kind))
 keeps_then May Kind P Q next on (set word value rest) h = (h.0, h.1, keeps_then May Kind P Q next on rest h.2)
 
 -- all words, or all values
@@ -68,7 +71,8 @@ abbrev pub Any : ℕ → Type 0
 Any n = Unit {0}
 
 -- where all may be named and given, it is what the program leaves
-pub leaves_kept : {X : Type 0} (P Q : X → Type 0) → ((x : X) → P x → Q x) → (p : Prog X) → Keeps Any Any P p → Leaves Q p
+pub leaves_kept : {X : Type 0} (P Q : X → Type 0) → ((x : X) → P x → Q x) → (p : Prog X)
+    → Keeps Any Any P p → Leaves Q p
 leaves_kept P Q so (done x) h = so x h
 leaves_kept P Q so (get word go_on) h = λ value. leaves_kept P Q so (go_on value) (h.1 value tt)
 leaves_kept P Q so (set word value rest) h = leaves_kept P Q so rest h.2
@@ -88,19 +92,22 @@ AccessOf Kind (cache.Store address value) = Kind value
 -- what the core reads is of the kind, and the words of the board that it names may be named
 pub record Gives (May Kind : ℕ → Type 0) (P : Core → Type 0) : Type 0 where
   pub none : Kind 0
-  pub merges : (width : StoreWidth) (address old value : ℕ) → Kind old → Kind value → Kind (merged width address old value)
+  pub merges : (width : StoreWidth) (address old value : ℕ) → Kind old → Kind value
+      → Kind (merged width address old value)
   pub scratch : (c : Core) (word : ℕ) → P c → Kind (c.plain.scratch word)
   pub private : (c : Core) (word : ℕ) → P c → Kind (c.plain.private word)
   pub stack : (c : Core) (place : ℕ) → P c → Kind (slice_index c.plain.stack.words place)
   pub left : (c : Core) (target : ℕ) → P c → Kind (port_to c.plain.interface target).channel.left
   pub cached : (c : Core) (address word : ℕ) → P c → cache.cached_word c.seen.cached address ≡ Some word → Kind word
   pub awaited : (c : Core) → P c → ThenOf Kind c.plain.transfer.then
-  pub asked : (c : Core) (b : Slots) → P c → (space : Mem) (width : StoreWidth) (address value : ℕ) → effect_of b c.plain.regs ≡ effect.Store space width address value → Kind value
+  pub asked : (c : Core) (b : Slots) → P c → (space : Mem) (width : StoreWidth) (address value : ℕ)
+      → effect_of b c.plain.regs ≡ effect.Store space width address value → Kind value
   pub comm : (c : Core) (word : ℕ) → P c → word < 512 → May (comm_word c.plain.site.core word)
   pub shared : (c : Core) (word : ℕ) → P c → word < 4096 → May word
 
 -- nothing is asked of values
-pub gives_any : (May : ℕ → Type 0) (P : Core → Type 0) → ((c : Core) (word : ℕ) → P c → word < 512 → May (comm_word c.plain.site.core word)) → ((c : Core) (word : ℕ) → P c → word < 4096 → May word)
+pub gives_any : (May : ℕ → Type 0) (P : Core → Type 0) → ((c : Core) (word : ℕ) → P c → word < 512
+    → May (comm_word c.plain.site.core word)) → ((c : Core) (word : ℕ) → P c → word < 4096 → May word)
     → Gives May Any P
 gives_any May P comm shared = record {
   none = tt;
@@ -149,18 +156,29 @@ with_start target count c = record {
 
 -- each kind of step keeps it
 pub record Steps (Kind : ℕ → Type 0) (P : Core → Type 0) : Type 0 where
-  pub waits : (c : Core) (t : Transfer) (free : ℕ) → P c → ThenOf Kind t.then → P (with_plain (λ x. record x { transfer = t; free = free }) c)
-  pub value : (c : Core) (rd : ℕ) (width : Width) (address word : ℕ) → P c → Kind word → P (with_plain (with_value rd width address word) c)
-  pub advances : (c : Core) (b : Slots) (words : ℕ) → P c → fetched_at c.plain.site.image c.plain.base c.plain.offset ≡ Found b words → P (with_plain (advanced words b) c)
-  pub stacks : (c : Core) (func : StackFunc) (count : ℕ) → P c → has_room func count c.plain.stack ≡ true → P (with_plain (stack_done func count) c)
-  pub sets : (c : Core) (width : StoreWidth) (address value : ℕ) → P c → Kind value → P (with_plain (λ x. record x { stack = stack_set width address value x.stack }) c)
-  pub scratch : (c : Core) (word value : ℕ) → P c → Kind value → P (with_plain (λ x. record x { scratch = put word value x.scratch }) c)
-  pub private : (c : Core) (word value : ℕ) → P c → Kind value → P (with_plain (λ x. record x { private = put word value x.private }) c)
-  pub source : (c : Core) (target value : ℕ) → P c → P (with_plain (λ x. record x { interface = with_source target value x.interface }) c)
-  pub target : (c : Core) (target value : ℕ) → P c → P (with_plain (λ x. record x { interface = with_target target value x.interface }) c)
+  pub waits : (c : Core) (t : Transfer) (free : ℕ) → P c → ThenOf Kind t.then
+      → P (with_plain (λ x. record x { transfer = t; free = free }) c)
+  pub value : (c : Core) (rd : ℕ) (width : Width) (address word : ℕ) → P c → Kind word
+      → P (with_plain (with_value rd width address word) c)
+  pub advances : (c : Core) (b : Slots) (words : ℕ) → P c → fetched_at c.plain.site.image c.plain.base c.plain.offset
+      ≡ Found b words → P (with_plain (advanced words b) c)
+  pub stacks : (c : Core) (func : StackFunc) (count : ℕ) → P c → has_room func count c.plain.stack ≡ true
+      → P (with_plain (stack_done func count) c)
+  pub sets : (c : Core) (width : StoreWidth) (address value : ℕ) → P c → Kind value
+      → P (with_plain (λ x. record x { stack = stack_set width address value x.stack }) c)
+  pub scratch : (c : Core) (word value : ℕ) → P c → Kind value
+      → P (with_plain (λ x. record x { scratch = put word value x.scratch }) c)
+  pub private : (c : Core) (word value : ℕ) → P c → Kind value
+      → P (with_plain (λ x. record x { private = put word value x.private }) c)
+  pub source : (c : Core) (target value : ℕ) → P c
+      → P (with_plain (λ x. record x { interface = with_source target value x.interface }) c)
+  pub target : (c : Core) (target value : ℕ) → P c
+      → P (with_plain (λ x. record x { interface = with_target target value x.interface }) c)
   pub starts : (c : Core) (target count : ℕ) → P c → P (with_start target count c)
-  pub caches : (c : Core) (access : cache.Access) → P c → AccessOf Kind access → P (record c { seen = record c.seen { cached = c.seen.cached ++ access ∷ [] } })
-  pub counts : (c : Core) (access : Access) → P c → P (record c { seen = record c.seen { accesses = c.seen.accesses ++ access ∷ [] } })
+  pub caches : (c : Core) (access : cache.Access) → P c → AccessOf Kind access
+      → P (record c { seen = record c.seen { cached = c.seen.cached ++ access ∷ [] } })
+  pub counts : (c : Core) (access : Access) → P c
+      → P (record c { seen = record c.seen { accesses = c.seen.accesses ++ access ∷ [] } })
 
 -- a trap keeps it, and a flow that takes effect
 pub record Turns (P : Core → Type 0) : Type 0 where
@@ -179,7 +197,8 @@ port_by b d target value c = elim b [
   ]
 ]
 
-pub port_cases : (Q : Bool → Bool → Core → Type 0) (target register value : ℕ) (c : Core) → ((d : Bool) → Q true d (port_by true d target value c)) → Q false true (port_by false true target value c)
+pub port_cases : (Q : Bool → Bool → Core → Type 0) (target register value : ℕ) (c : Core)
+    → ((d : Bool) → Q true d (port_by true d target value c)) → Q false true (port_by false true target value c)
     → Q false false (with_start target value c) → Q (register == 0) (register == 4) (port_set target register value c)
 port_cases Q target register value c source to start = by (register == 0) (register == 4)
   where
@@ -194,7 +213,8 @@ pub flow_kept : (P : Core → Type 0) → Turns P → (cycle : ℕ) (c : Core) �
 unfolding flowed
 flow_kept P t cycle c h = by_free (is_free cycle c.plain)
   where
-    by_place : (goal : Goal) (b : Bool) → is_placed goal c.plain ≡ b → P (elim b as (λ _. Core) [ true ↦ gone goal c | false ↦ with_plain (stopped trap.Flow cycle) c ])
+    by_place : (goal : Goal) (b : Bool) → is_placed goal c.plain ≡ b
+        → P (elim b as (λ _. Core) [ true ↦ gone goal c | false ↦ with_plain (stopped trap.Flow cycle) c ])
     by_place goal true placed = t.goes c goal h placed
     by_place goal false none = t.stops c trap.Flow cycle h
 
@@ -202,12 +222,21 @@ flow_kept P t cycle c h = by_free (is_free cycle c.plain)
     by_slots f true = by_place f.goal (is_placed f.goal c.plain) refl
     by_slots f false = h
 
-    by_flow : (flow : Option Flow) → P (elim flow as (λ _. Core) [ None ↦ c | Some f ↦ elim (f.slots == 0) as (λ _. Core) [ true ↦ taken cycle f.goal c | false ↦ c ] ])
+    by_flow : (flow : Option Flow)
+        → P (elim flow as (λ _. Core) [
+          | None ↦ c
+          | Some f ↦ elim (f.slots == 0) as (λ _. Core)
+              [ true ↦ taken cycle f.goal c | false ↦ c ]
+        ])
     by_flow None = h
     by_flow (Some f) = by_slots f (f.slots == 0)
 
     by_free : (b : Bool) → P (elim b as (λ _. Core) [
-      | true ↦ elim c.plain.flow as (λ _. Core) [ None ↦ c | Some f ↦ elim (f.slots == 0) as (λ _. Core) [ true ↦ taken cycle f.goal c | false ↦ c ] ]
+      | true ↦ elim c.plain.flow as (λ _. Core) [
+        | None ↦ c
+        | Some f ↦ elim (f.slots == 0) as (λ _. Core)
+            [ true ↦ taken cycle f.goal c | false ↦ c ]
+      ]
       | false ↦ c
     ])
     by_free true = by_flow c.plain.flow
@@ -216,7 +245,8 @@ flow_kept P t cycle c h = by_free (is_free cycle c.plain)
 -- ---- the walk
 
 -- a check that does not fail holds
-room_of : (func : StackFunc) (count : ℕ) (x : Plain) → fault_of x (effect.StackOp func count) ≡ None → has_room func count x.stack ≡ true
+room_of : (func : StackFunc) (count : ℕ) (x : Plain) → fault_of x (effect.StackOp func count) ≡ None
+    → has_room func count x.stack ≡ true
 unfolding fault_of
 room_of func count x is = by (has_room func count x.stack) is
   where
@@ -234,17 +264,21 @@ module _ (May Kind : ℕ → Type 0) (P : Core → Type 0) (g : Gives May Kind P
 
   -- ---- cells
 
-  acts_reading : (place : Option Cell) (c : Core) (go_on : ℕ → Prog Acted) → P c → IfSome place IsInRange → ((word : ℕ) → Kind word → Acts (go_on word)) → Acts (reading place c.plain go_on)
+  acts_reading : (place : Option Cell) (c : Core) (go_on : ℕ → Prog Acted) → P c → IfSome place IsInRange
+      → ((word : ℕ) → Kind word → Acts (go_on word)) → Acts (reading place c.plain go_on)
   acts_reading None c go_on h here next = next 0 g.none
   acts_reading (Some (cell.Scratch word)) c go_on h here next = next (c.plain.scratch word) (g.scratch c word h)
   acts_reading (Some (cell.Private word)) c go_on h here next = next (c.plain.private word) (g.private c word h)
   acts_reading (Some (cell.Comm word)) c go_on h here next = (g.comm c word h here, next)
   acts_reading (Some (cell.Shared word)) c go_on h here next = (g.shared c word h here, next)
-  acts_reading (Some (cell.Port target register)) c go_on h here next = next (port_to c.plain.interface target).channel.left (g.left c target h)
+  acts_reading (Some (cell.Port target register)) c go_on h here next =
+      next (port_to c.plain.interface target).channel.left (g.left c target h)
 
-  acts_line : (place : Option Cell) (c : Core) (go_on : List ℕ → Prog Acted) → P c → IfSome place LineFits → ((line : List ℕ) → Each Kind line → Acts (go_on line)) → Acts (reading_line place c.plain go_on)
+  acts_line : (place : Option Cell) (c : Core) (go_on : List ℕ → Prog Acted) → P c → IfSome place LineFits
+      → ((line : List ℕ) → Each Kind line → Acts (go_on line)) → Acts (reading_line place c.plain go_on)
   acts_line (Some (cell.Private word)) c go_on h here next =
-      next (c.plain.private word ∷ c.plain.private (word + 1) ∷ c.plain.private (word + 2) ∷ c.plain.private (word + 3) ∷ [])
+      next (c.plain.private word ∷ c.plain.private (word + 1) ∷ c.plain.private (word + 2) ∷ c.plain.private (word + 3)
+      ∷ [])
       (g.private c word h, (g.private c (word + 1) h, (g.private c (word + 2) h, (g.private c (word + 3) h, tt))))
   acts_line (Some (cell.Shared word)) c go_on h here next = (
     g.shared c word h (omega (arith, here)),
@@ -252,27 +286,46 @@ module _ (May Kind : ℕ → Type 0) (P : Core → Type 0) (g : Gives May Kind P
       g.shared c (word + 1) h (omega (arith, here)),
       λ b kb. (
         g.shared c (word + 1 + 1) h (omega (arith, here)),
-        λ d kd. (g.shared c (word + 1 + 1 + 1) h (omega (arith, here)), λ e ke. next (a ∷ b ∷ d ∷ e ∷ []) (ka, (kb, (kd, (ke, tt))))),
+        λ d kd. (
+          g.shared c (word + 1 + 1 + 1) h (omega (arith, here)),
+          λ e ke. next (a ∷ b ∷ d ∷ e ∷ [])
+              (ka, (kb, (kd, (ke, tt)))),
+        ),
       ),
     ),
   )
   acts_line _ c go_on h here next = next no_line (g.none, (g.none, (g.none, (g.none, tt))))
 
-  acts_storing : (word : ℕ) (width : StoreWidth) (address value : ℕ) (c : Core) → P c → May word → Kind value → Acts (storing word width address value c)
+  acts_storing : (word : ℕ) (width : StoreWidth) (address value : ℕ) (c : Core) → P c → May word → Kind value
+      → Acts (storing word width address value c)
   acts_storing word store.Word address value c h may kind = (may, kind, (h, tt))
-  acts_storing word store.Half address value c h may kind = (may, λ old k. (h, (may, g.merges store.Half address old value k kind)))
-  acts_storing word store.Byte address value c h may kind = (may, λ old k. (h, (may, g.merges store.Byte address old value k kind)))
+  acts_storing word store.Half address value c h may kind =
+      (may, λ old k. (h, (may, g.merges store.Half address old value k kind)))
+  acts_storing word store.Byte address value c h may kind =
+      (may, λ old k. (h, (may, g.merges store.Byte address old value k kind)))
 
-  acts_writing : (place : Option Cell) (width : StoreWidth) (address value : ℕ) (c : Core) → P c → IfSome place IsInRange → Kind value → Acts (writing place width address value c)
+  acts_writing : (place : Option Cell) (width : StoreWidth) (address value : ℕ) (c : Core) → P c
+      → IfSome place IsInRange → Kind value → Acts (writing place width address value c)
   acts_writing None width address value c h here kind = (h, tt)
-  acts_writing (Some (cell.Scratch word)) width address value c h here kind =
-      (s.scratch c word (merged width address (c.plain.scratch word) value) h (g.merges width address (c.plain.scratch word) value (g.scratch c word h) kind), tt)
-  acts_writing (Some (cell.Private word)) width address value c h here kind =
-      (s.private c word (merged width address (c.plain.private word) value) h (g.merges width address (c.plain.private word) value (g.private c word h) kind), tt)
-  acts_writing (Some (cell.Comm word)) width address value c h here kind = acts_storing (comm_word c.plain.site.core word) width address value c h (g.comm c word h here) kind
-  acts_writing (Some (cell.Shared word)) width address value c h here kind = acts_storing word width address value c h (g.shared c word h here) kind
-  acts_writing (Some (cell.Port target register)) width address value c h here kind =
-      (port_cases (λ b d. P) target register value c (λ d. s.source c target value h) (s.target c target value h) (s.starts c target value h), tt)
+  acts_writing (Some (cell.Scratch word)) width address value c h here kind = (
+    s.scratch c word (merged width address (c.plain.scratch word) value) h
+        (g.merges width address (c.plain.scratch word) value (g.scratch c word h) kind),
+    tt,
+  )
+  acts_writing (Some (cell.Private word)) width address value c h here kind = (
+    s.private c word (merged width address (c.plain.private word) value) h
+        (g.merges width address (c.plain.private word) value (g.private c word h) kind),
+    tt,
+  )
+  acts_writing (Some (cell.Comm word)) width address value c h here kind =
+      acts_storing (comm_word c.plain.site.core word) width address value c h (g.comm c word h here) kind
+  acts_writing (Some (cell.Shared word)) width address value c h here kind =
+      acts_storing word width address value c h (g.shared c word h here) kind
+  acts_writing (Some (cell.Port target register)) width address value c h here kind = (
+    port_cases (λ b d. P) target register value c (λ d. s.source c target value h) (s.target c target value h)
+        (s.starts c target value h),
+    tt,
+  )
 
   -- ---- a bundle
 
@@ -282,16 +335,22 @@ module _ (May Kind : ℕ → Type 0) (P : Core → Type 0) (g : Gives May Kind P
   moves_kept : (t : Transfer) (cycle : ℕ) (c : Core) → P c → ThenOf Kind t.then → P (with_plain (moves t cycle) c)
   moves_kept t cycle c h of = by (t.words == 0)
     where
-      by : (b : Bool) → P (with_plain (λ x. elim b as (λ _. Plain) [ true ↦ ends cycle x | false ↦ record x { transfer = t } ]) c)
+      by : (b : Bool)
+          → P (with_plain (λ x. elim b as (λ _. Plain) [ true ↦ ends cycle x | false ↦ record x { transfer = t } ]) c)
       by true = ends_kept cycle c h
       by false = s.waits c t c.plain.free h of
 
-  stacked_kept : (func : StackFunc) (count cycle : ℕ) (c : Core) → P c → has_room func count c.plain.stack ≡ true → P (with_plain (stacked func count cycle) c)
-  stacked_kept Sres count cycle c h room = moves_kept (writes (length (spilled count c.plain.stack)) then_on.Nothing) cycle (with_plain (stack_done Sres count) c) (s.stacks c Sres count h room) tt
-  stacked_kept Sens count cycle c h room = moves_kept (reads (missing count c.plain.stack) then_on.Nothing) cycle (with_plain (stack_done Sens count) c) (s.stacks c Sens count h room) tt
-  stacked_kept Sfree count cycle c h room = ends_kept cycle (with_plain (stack_done Sfree count) c) (s.stacks c Sfree count h room)
+  stacked_kept : (func : StackFunc) (count cycle : ℕ) (c : Core) → P c → has_room func count c.plain.stack ≡ true
+      → P (with_plain (stacked func count cycle) c)
+  stacked_kept Sres count cycle c h room = moves_kept (writes (length (spilled count c.plain.stack)) then_on.Nothing)
+      cycle (with_plain (stack_done Sres count) c) (s.stacks c Sres count h room) tt
+  stacked_kept Sens count cycle c h room = moves_kept (reads (missing count c.plain.stack) then_on.Nothing) cycle
+      (with_plain (stack_done Sens count) c) (s.stacks c Sens count h room) tt
+  stacked_kept Sfree count cycle c h room =
+      ends_kept cycle (with_plain (stack_done Sfree count) c) (s.stacks c Sfree count h room)
 
-  cached_kept : (rd : ℕ) (width : Width) (address cycle : ℕ) (c : Core) → P c → P (cache_loaded rd width address cycle c)
+  cached_kept : (rd : ℕ) (width : Width) (address cycle : ℕ) (c : Core) → P c
+      → P (cache_loaded rd width address cycle c)
   cached_kept rd width address cycle c h = by (cache.cached_word c.seen.cached address) refl
     where
       by : (found : Option ℕ) → cache.cached_word c.seen.cached address ≡ found → P (elim found as (λ _. Core) [
@@ -308,29 +367,51 @@ module _ (May Kind : ℕ → Type 0) (P : Core → Type 0) (g : Gives May Kind P
           (s.caches d (cache.Load address None) (s.value c rd width address word h (g.cached c address word h hit)) tt)
 
   -- what it asked for, where a stack instruction has room and a store stores what may be stored
-  pub acts_answered : (asked : Effect) (cycle : ℕ) (c : Core) → P c → ((func : StackFunc) (count : ℕ) → asked ≡ effect.StackOp func count → has_room func count c.plain.stack ≡ true)
-      → ((space : Mem) (width : StoreWidth) (address value : ℕ) → asked ≡ effect.Store space width address value → Kind value) → Acts (answered asked cycle c)
+  pub acts_answered : (asked : Effect) (cycle : ℕ) (c : Core) → P c → ((func : StackFunc) (count : ℕ) → asked
+      ≡ effect.StackOp func count → has_room func count c.plain.stack ≡ true)
+      → ((space : Mem) (width : StoreWidth) (address value : ℕ) → asked ≡ effect.Store space width address value
+      → Kind value) → Acts (answered asked cycle c)
   acts_answered (effect.Load mem.S width rd address) cycle c h room kind =
-      let word : ℕ = slice_index c.plain.stack.words (address / 4) in
-      (ends_kept cycle (with_plain (with_value rd width address word) c) (s.value c rd width address word h (g.stack c (address / 4) h)), tt)
+      let word : ℕ = slice_index c.plain.stack.words (address / 4) in (
+        ends_kept cycle (with_plain (with_value rd width address word) c) (s.value c rd width address word h
+            (g.stack c (address / 4) h)),
+        tt,
+      )
   acts_answered (effect.Load mem.L width rd address) cycle c h room kind =
-      acts_reading (cell_of Local address) c (λ word. now (with_plain (λ x. ends cycle (with_value rd width address word x)) c)) h (cell_in_range Local address)
-      (λ word k. (ends_kept cycle (with_plain (with_value rd width address word) c) (s.value c rd width address word h k), tt))
+      acts_reading (cell_of Local address) c
+      (λ word. now (with_plain (λ x. ends cycle (with_value rd width address word x)) c)) h
+      (cell_in_range Local address)
+      (λ word k. (
+        ends_kept cycle (with_plain (with_value rd width address word) c)
+            (s.value c rd width address word h k),
+        tt,
+      ))
   acts_answered (effect.Load mem.C width rd address) cycle c h room kind = (cached_kept rd width address cycle c h, tt)
-  acts_answered (effect.Load mem.M width rd address) cycle c h room kind = (moves_kept (reads 1 (then_on.Load rd width address)) cycle c h tt, tt)
-  acts_answered (effect.Store mem.S width address value) cycle c h room kind =
-      (ends_kept cycle (with_plain (λ x. record x { stack = stack_set width address value x.stack }) c) (s.sets c width address value h (kind mem.S width address value refl)), tt)
+  acts_answered (effect.Load mem.M width rd address) cycle c h room kind =
+      (moves_kept (reads 1 (then_on.Load rd width address)) cycle c h tt, tt)
+  acts_answered (effect.Store mem.S width address value) cycle c h room kind = (
+    ends_kept cycle (with_plain (λ x. record x { stack = stack_set width address value x.stack }) c)
+        (s.sets c width address value h (kind mem.S width address value refl)),
+    tt,
+  )
   acts_answered (effect.Store mem.L width address value) cycle c h room kind =
-      acts_writing (cell_of Local address) width address value (with_plain (ends cycle) c) (ends_kept cycle c h) (cell_in_range Local address) (kind mem.L width address value refl)
-  acts_answered (effect.Store mem.C width address value) cycle c h room kind =
-      (moves_kept (writes 1 (then_on.Store true width address value)) cycle c h (kind mem.C width address value refl), tt)
-  acts_answered (effect.Store mem.M width address value) cycle c h room kind =
-      (moves_kept (writes 1 (then_on.Store false width address value)) cycle c h (kind mem.M width address value refl), tt)
-  acts_answered (effect.StackOp func count) cycle c h room kind = (stacked_kept func count cycle c h (room func count refl), tt)
+      acts_writing (cell_of Local address) width address value (with_plain (ends cycle) c) (ends_kept cycle c h)
+      (cell_in_range Local address) (kind mem.L width address value refl)
+  acts_answered (effect.Store mem.C width address value) cycle c h room kind = (
+    moves_kept (writes 1 (then_on.Store true width address value)) cycle c h (kind mem.C width address value refl),
+    tt,
+  )
+  acts_answered (effect.Store mem.M width address value) cycle c h room kind = (
+    moves_kept (writes 1 (then_on.Store false width address value)) cycle c h (kind mem.M width address value refl),
+    tt,
+  )
+  acts_answered (effect.StackOp func count) cycle c h room kind =
+      (stacked_kept func count cycle c h (room func count refl), tt)
   acts_answered _ cycle c h room kind = (ends_kept cycle c h, tt)
 
   -- a bundle whose checks pass
-  pub acts_found : (b : Slots) (words cycle : ℕ) (c : Core) → P c → P (with_plain (advanced words b) c) → fault_of c.plain (effect_of b c.plain.regs) ≡ None
+  pub acts_found : (b : Slots) (words cycle : ℕ) (c : Core) → P c → P (with_plain (advanced words b) c)
+      → fault_of c.plain (effect_of b c.plain.regs) ≡ None
       → Acts (answered (effect_of b c.plain.regs) cycle (with_plain (advanced words b) c))
   acts_found b words cycle c h advances none =
       acts_answered (effect_of b c.plain.regs) cycle (with_plain (advanced words b) c) advances
@@ -340,11 +421,20 @@ module _ (May Kind : ℕ → Type 0) (P : Core → Type 0) (g : Gives May Kind P
 
   counted_kept : (cycle : ℕ) (c : Core) → P c → P (counted cycle c)
   counted_kept cycle c h =
-      s.counts (with_plain (moved cycle) c) (record { cycle = cycle; write = c.plain.transfer.write; words = burst c.plain.transfer })
-      (s.waits c (record c.plain.transfer { words = c.plain.transfer.words - 4; then = then_on.Nothing }) (cycle + c.plain.site.slot) h tt)
+      s.counts (with_plain (moved cycle) c) (record {
+        cycle = cycle;
+        write = c.plain.transfer.write;
+        words = burst c.plain.transfer;
+      })
+      (s.waits c (record c.plain.transfer { words = c.plain.transfer.words - 4; then = then_on.Nothing })
+      (cycle + c.plain.site.slot) h tt)
 
   stored_kept : (by_cache : Bool) (width : StoreWidth) (address value cycle : ℕ) (c : Core) → P c → Kind value
-      → P (record { plain = moved cycle c.plain; seen = with_store by_cache width address value (counted cycle c).seen })
+      → P (record {
+        plain = moved cycle c.plain;
+        seen = with_store by_cache width address value
+            (counted cycle c).seen;
+      })
   stored_kept false width address value cycle c h kind = counted_kept cycle c h
   stored_kept true width address value cycle c h kind =
       let old : ℕ = unwrap_or (cache.cached_word c.seen.cached address) 0 in
@@ -374,17 +464,25 @@ module _ (May Kind : ℕ → Type 0) (P : Core → Type 0) (g : Gives May Kind P
       by : (moved_on : Then) → ThenOf Kind moved_on → Acts (transaction_then moved_on cycle c)
       by then_on.Nothing of = (k, tt)
       by (then_on.Load rd width address) of =
-          acts_reading (cell_of Main address) c (λ word. now (with_plain (with_value rd width address word) d)) h (cell_in_range Main address)
+          acts_reading (cell_of Main address) c (λ word. now (with_plain (with_value rd width address word) d)) h
+          (cell_in_range Main address)
           (λ word kind. (s.value d rd width address word k kind, tt))
       by (then_on.Line rd width address) of =
-          acts_line (cell_of Main (line_address address)) c (λ line. now (line_taken rd width address line d)) h (line_fits address)
+          acts_line (cell_of Main (line_address address)) c (λ line. now (line_taken rd width address line d)) h
+          (line_fits address)
           (λ line kinds. (
-            s.value (record d { seen = record d.seen { cached = d.seen.cached ++ cache.Load address (Some line) ∷ [] } }) rd width address (slice_index line (cache.place_of address))
+            s.value (record d {
+              seen = record d.seen {
+                cached = d.seen.cached ++ cache.Load address (Some line)
+                    ∷ [];
+              };
+            }) rd width address (slice_index line (cache.place_of address))
                 (s.caches d (cache.Load address (Some line)) k kinds) (line_word line (cache.place_of address) kinds),
             tt,
           ))
       by (then_on.Store by_cache width address value) of =
-          acts_writing (cell_of Main address) width address value (record { plain = moved cycle c.plain; seen = with_store by_cache width address value d.seen })
+          acts_writing (cell_of Main address) width address value
+          (record { plain = moved cycle c.plain; seen = with_store by_cache width address value d.seen })
           (stored_kept by_cache width address value cycle c h of) (cell_in_range Main address) of
 
   pub acts_slot : (cycle : ℕ) (y : Acted) → Left y → Acts (slot_step cycle y)
@@ -399,20 +497,23 @@ module _ (May Kind : ℕ → Type 0) (P : Core → Type 0) (g : Gives May Kind P
   pub acts_settled : (y : Acted) → Left y → Keeps May Kind P (settled y)
   acts_settled y h = by y.pending_store h.1
     where
-      by : (pending_store : Option PendingStore) → IfSome pending_store (λ o. May o.word × Kind o.value) → Keeps May Kind P (settled (record { core = y.core; pending_store = pending_store }))
+      by : (pending_store : Option PendingStore) → IfSome pending_store (λ o. May o.word × Kind o.value)
+          → Keeps May Kind P (settled (record { core = y.core; pending_store = pending_store }))
       by None of = h.0
       by (Some o) of = (of.0, of.1, h.0)
 
   module _ (t : Turns P) where
-    acts_done : (fetched : Fetched) (cycle : ℕ) (c : Core) → P c → fetched_at c.plain.site.image c.plain.base c.plain.offset ≡ fetched → Acts (done_as fetched cycle c)
+    acts_done : (fetched : Fetched) (cycle : ℕ) (c : Core) → P c
+        → fetched_at c.plain.site.image c.plain.base c.plain.offset ≡ fetched → Acts (done_as fetched cycle c)
     acts_done Outside cycle c h found = (t.stops c trap.Flow cycle h, tt)
     acts_done NoBundle cycle c h found = (t.stops c trap.Decode cycle h, tt)
     acts_done (Found b words) cycle c h found = by (fault_of c.plain (effect_of b c.plain.regs)) refl
       where
-        by : (fault : Option Trap) → fault_of c.plain (effect_of b c.plain.regs) ≡ fault → Acts (elim fault as (λ _. Prog Acted) [
-          | None ↦ answered (effect_of b c.plain.regs) cycle (with_plain (advanced words b) c)
-          | Some f ↦ now (with_plain (stopped f cycle) c)
-        ])
+        by : (fault : Option Trap) → fault_of c.plain (effect_of b c.plain.regs) ≡ fault
+            → Acts (elim fault as (λ _. Prog Acted) [
+              | None ↦ answered (effect_of b c.plain.regs) cycle (with_plain (advanced words b) c)
+              | Some f ↦ now (with_plain (stopped f cycle) c)
+            ])
         by None none = acts_found b words cycle c h (s.advances c b words h found) none
         by (Some f) fails = (t.stops c f cycle h, tt)
 
@@ -422,7 +523,15 @@ module _ (May Kind : ℕ → Type 0) (P : Core → Type 0) (g : Gives May Kind P
     acts_step : (cycle : ℕ) (c : Core) → P c → Acts (if_running (bundle_step cycle) c)
     acts_step cycle c h = by (is_running c.plain) (is_free cycle c.plain)
       where
-        by : (b d : Bool) → Acts (elim b as (λ _. Prog Acted) [ true ↦ elim d as (λ _. Prog Acted) [ true ↦ bundle cycle c | false ↦ now c ] | false ↦ now c ])
+        by : (b d : Bool)
+            → Acts (elim b as (λ _. Prog Acted) [
+              | true ↦ elim d as (λ _. Prog Acted) [
+                | true ↦ bundle cycle c
+                | false ↦
+                    now c
+              ]
+              | false ↦ now c
+            ])
         by true true = acts_bundle cycle c h
         by true false = (h, tt)
         by false d = (h, tt)
@@ -430,17 +539,25 @@ module _ (May Kind : ℕ → Type 0) (P : Core → Type 0) (g : Gives May Kind P
     pub acts_own : (cycle : ℕ) (c : Core) → P c → Acts (own cycle c)
     acts_own cycle c h = by (is_running c.plain)
       where
-        by : (b : Bool) → Acts (elim b as (λ _. Prog Acted) [ true ↦ and_then (if_running (bundle_step cycle) (flowed cycle c)) (slot_step cycle) | false ↦ now c ])
-        by true = keeps_then May Kind Left Left (slot_step cycle) (acts_slot cycle) (if_running (bundle_step cycle) (flowed cycle c)) (acts_step cycle (flowed cycle c) (flow_kept P t cycle c h))
+        by : (b : Bool)
+            → Acts (elim b as (λ _. Prog Acted) [
+              | true ↦ and_then (if_running (bundle_step cycle) (flowed cycle c))
+                  (slot_step cycle)
+              | false ↦ now c
+            ])
+        by true = keeps_then May Kind Left Left (slot_step cycle) (acts_slot cycle) (if_running (bundle_step cycle)
+            (flowed cycle c)) (acts_step cycle (flowed cycle c) (flow_kept P t cycle c h))
         by false = (h, tt)
 
     pub act_kept : (cycle : ℕ) (c : Core) → P c → Keeps May Kind P (and_then (own cycle c) settled)
     act_kept cycle c h = keeps_then May Kind Left P settled acts_settled (own cycle c) (acts_own cycle c h)
 
 -- where nothing is asked of words and values, it is what the act leaves
-pub act_leaves : (P : Core → Type 0) → Steps Any P → Turns P → (cycle : ℕ) (c : Core) → P c → Leaves P (and_then (own cycle c) settled)
+pub act_leaves : (P : Core → Type 0) → Steps Any P → Turns P → (cycle : ℕ) (c : Core) → P c
+    → Leaves P (and_then (own cycle c) settled)
 act_leaves P s t cycle c h =
-    leaves_kept P P (λ d k. k) (and_then (own cycle c) settled) (act_kept Any Any P (gives_any Any P (λ d word k below. tt) (λ d word k below. tt)) s t cycle c h)
+    leaves_kept P P (λ d k. k) (and_then (own cycle c) settled)
+    (act_kept Any Any P (gives_any Any P (λ d word k below. tt) (λ d word k below. tt)) s t cycle c h)
 
 -- ---- where a core is
 

@@ -19,8 +19,10 @@ use Rattle.patmos_model.specs.Transaction.{line_address}
 use Rattle.patmos_model.specs.Range.{IsWord, PlainFits, InRange}
 use Rattle.patmos_model.proofs.HeldWords.{put_fits}
 
-local_cell : (scratch comm port : Bool) (s c p r : ℕ) → (scratch ≡ true → s < 2048) → (comm ≡ true → c < 512) → (port ≡ true → (p < 16) × (r < 16) × (r % 4 ≡ 0))
-    → IfSome (cond scratch (Some (cell.Scratch s)) (cond comm (Some (cell.Comm c)) (cond port (Some (cell.Port p r)) None))) IsInRange
+local_cell : (scratch comm port : Bool) (s c p r : ℕ) → (scratch ≡ true → s < 2048) → (comm ≡ true → c < 512)
+    → (port ≡ true → (p < 16) × (r < 16) × (r % 4 ≡ 0))
+    → IfSome (cond scratch (Some (cell.Scratch s)) (cond comm (Some (cell.Comm c))
+    (cond port (Some (cell.Port p r)) None))) IsInRange
 local_cell true comm port s c p r hs hc hp = hs refl
 local_cell false true port s c p r hs hc hp = hc refl
 local_cell false false true s c p r hs hc hp = hp refl
@@ -34,13 +36,15 @@ main_cell false false p s hp hs = tt
 
 -- a cell that an address names is in range
 pub cell_in_range : (space : Space) (address : ℕ) → IfSome (cell_of space address) IsInRange
-cell_in_range Local address = local_cell _ _ _ _ _ _ _ (λ h. grind (arith, nat_tests)) (λ h. grind (arith, nat_tests)) (λ h. (grind (arith, nat_tests), grind (arith, nat_tests), grind (arith, nat_tests)))
+cell_in_range Local address = local_cell _ _ _ _ _ _ _ (λ h. grind (arith, nat_tests)) (λ h. grind (arith, nat_tests))
+    (λ h. (grind (arith, nat_tests), grind (arith, nat_tests), grind (arith, nat_tests)))
 cell_in_range Main address = main_cell _ _ _ _ (λ h. grind (arith, nat_tests)) (λ h. grind (arith, nat_tests))
 
 -- the words of shared memory and of a core's communication memory are on the board
 pub on_board : (words : ℕ) (x : Plain) (word : ℕ) → PlainFits words x → word < 512 → comm_word x.site.core word < words
 on_board words x word h below =
-    let among : x.site.core < x.site.cores = subst (λ n. x.site.core < n) h.cores (subst (λ n. n < x.interface.cores) h.core h.interface.among) in
+    let among : x.site.core < x.site.cores =
+    subst (λ n. x.site.core < n) h.cores (subst (λ n. n < x.interface.cores) h.core h.interface.among) in
     let next : 512 * x.site.core + 512 ≤ 512 * x.site.cores = omega (arith, among) in
     omega (arith, h.room)
 
@@ -62,7 +66,8 @@ pub line_fits : (address : ℕ) → IfSome (cell_of Main (line_address address))
 line_fits address = main_line_fits _ _ _ _ (λ h. grind (arith, nat_tests))
 
 -- the state with another interface, or scratchpad
-pub interface_fits : (words : ℕ) (i : Interface) (c : Core) → InRange words c → ni.InRange i → i.core ≡ c.plain.interface.core → i.cores ≡ c.plain.interface.cores
+pub interface_fits : (words : ℕ) (i : Interface) (c : Core) → InRange words c → ni.InRange i → i.core
+    ≡ c.plain.interface.core → i.cores ≡ c.plain.interface.cores
     → InRange words (with_plain (λ x. record x { interface = i }) c)
 interface_fits words i c h here core cores = record {
   plain = record {
@@ -82,7 +87,8 @@ interface_fits words i c h here core cores = record {
   cached = h.cached;
 }
 
-pub scratch_fits : (words word value : ℕ) (c : Core) → InRange words c → IsWord value → InRange words (with_plain (λ x. record x { scratch = put word value x.scratch }) c)
+pub scratch_fits : (words word value : ℕ) (c : Core) → InRange words c → IsWord value
+    → InRange words (with_plain (λ x. record x { scratch = put word value x.scratch }) c)
 scratch_fits words word value c h v = record {
   plain = record {
     room = h.plain.room;
@@ -102,7 +108,8 @@ scratch_fits words word value c h v = record {
 }
 
 -- a start leaves an interface at its place
-pub started_place : (answer : Started) (d count : ℕ) (x : Interface) → ((started_by answer d count x).core ≡ x.core) × ((started_by answer d count x).cores ≡ x.cores)
+pub started_place : (answer : Started) (d count : ℕ) (x : Interface) → ((started_by answer d count x).core ≡ x.core)
+    × ((started_by answer d count x).cores ≡ x.cores)
 started_place Begun d count x = (refl, refl)
 started_place Dropped d count x = (refl, refl)
 started_place Refused d count x = (refl, refl)

@@ -56,9 +56,21 @@ use Rattle.patmos_model.proofs.NarrowWords.{picked_word, merged_word}
 use Rattle.patmos_model.proofs.HeldWords.{cached_words, each_index, reserved_words, spilled_words, freed_words, words_from_fit, with_words_fit, overlaid_words, put_fits}
 
 -- what has changed of a plain part is in range, and all else is as it was
-refit : (words : ℕ) (x : Plain) {regs : Registers} {stack : Stack} {private : ℕ → ℕ} {base offset : ℕ} {flow : Option Flow} {transfer : Transfer} {free : ℕ} {status : Status}
-    → PlainFits words x → HasWords regs → Each IsWord stack.words → ((word : ℕ) → IsWord (private word)) → IsWord base → IsWord offset → ThenFits transfer.then
-    → PlainFits words (record x { regs = regs; stack = stack; private = private; base = base; offset = offset; flow = flow; transfer = transfer; free = free; status = status })
+refit : (words : ℕ) (x : Plain) {regs : Registers} {stack : Stack} {private : ℕ → ℕ} {base offset : ℕ}
+    {flow : Option Flow} {transfer : Transfer} {free : ℕ} {status : Status}
+    → PlainFits words x → HasWords regs → Each IsWord stack.words → ((word : ℕ) → IsWord (private word)) → IsWord base
+    → IsWord offset → ThenFits transfer.then
+    → PlainFits words (record x {
+      regs = regs;
+      stack = stack;
+      private = private;
+      base = base;
+      offset = offset;
+      flow = flow;
+      transfer = transfer;
+      free = free;
+      status = status;
+    })
 refit words x h regs stack private base offset transfer = record {
   room = h.room;
   code = h.code;
@@ -85,7 +97,8 @@ FetchFits offset Outside = Unit {0}
 FetchFits offset NoBundle = Unit {0}
 FetchFits offset (Found b size) = ConstantsFit b × IsWord (offset + size)
 
-taken_fits : (offset size : ℕ) (found : Option Slots) → ((b : Slots) → found ≡ Some b → ConstantsFit b) → IsWord (offset + size) → FetchFits offset (taken_for size found)
+taken_fits : (offset size : ℕ) (found : Option Slots) → ((b : Slots) → found ≡ Some b → ConstantsFit b)
+    → IsWord (offset + size) → FetchFits offset (taken_for size found)
 taken_fits offset size None fits next = tt
 taken_fits offset size (Some b) fits next = (fits b refl, next)
 
@@ -99,10 +112,12 @@ fetched_fits image base offset code = either (is_inside image base offset) refl
     found : Option Slots
     found = bundle_at (word_at image base offset) (word_at image base (offset + 1))
 
-    either : (b : Bool) → is_inside image base offset ≡ b → FetchFits offset (elim b [ false ↦ Outside | true ↦ taken_for size found ])
+    either : (b : Bool) → is_inside image base offset ≡ b
+        → FetchFits offset (elim b [ false ↦ Outside | true ↦ taken_for size found ])
     either false outside = tt
     either true inside =
-        taken_fits offset size found (λ b e. constants_fit (word_at image base offset) (word_at image base (offset + 1)) b (code.words (base + (offset + 1))) e)
+        taken_fits offset size found (λ b e. constants_fit (word_at image base offset) (word_at image base (offset + 1))
+        b (code.words (base + (offset + 1))) e)
         (below_size (offset + size) (size_at image base) inside (code.words (base - 1)))
 
 -- ---- what the core gives
@@ -137,55 +152,85 @@ access_fits (cache.Load address None) of = tt
 access_fits (cache.Load address (Some words)) of = of
 access_fits (cache.Store address value) of = of
 
-stack_fits : (words : ℕ) (func : StackFunc) (count : ℕ) (x : Plain) → PlainFits words x → PlainFits words (stack_done func count x)
+stack_fits : (words : ℕ) (func : StackFunc) (count : ℕ) (x : Plain) → PlainFits words x
+    → PlainFits words (stack_done func count x)
 stack_fits words Sres count x h =
-    refit words x h h.regs (reserved_words count x.stack h.stack) (with_words_fit (spilled count x.stack) (reserved count x.stack).ss x.private (spilled_words count x.stack h.stack) h.private) h.base h.offset h.transfer
+    refit words x h h.regs (reserved_words count x.stack h.stack) (with_words_fit (spilled count x.stack)
+    (reserved count x.stack).ss x.private (spilled_words count x.stack h.stack) h.private) h.base
+    h.offset h.transfer
 stack_fits words Sens count x h =
-    refit words x h h.regs (each-append IsWord x.stack.words (words_from x.private x.stack.ss (missing count x.stack)) h.stack (words_from_fit x.private x.stack.ss (missing count x.stack) h.private)) h.private h.base h.offset h.transfer
-stack_fits words Sfree count x h = refit words x h h.regs (freed_words count x.stack h.stack) h.private h.base h.offset h.transfer
+    refit words x h h.regs (each-append IsWord x.stack.words (words_from x.private x.stack.ss (missing count x.stack))
+    h.stack (words_from_fit x.private x.stack.ss (missing count x.stack) h.private)) h.private h.base
+    h.offset h.transfer
+stack_fits words Sfree count x h =
+    refit words x h h.regs (freed_words count x.stack h.stack) h.private h.base h.offset h.transfer
 
-set_fits : (words : ℕ) (width : StoreWidth) (address value : ℕ) (x : Plain) → PlainFits words x → IsWord value → PlainFits words (record x { stack = stack_set width address value x.stack })
+set_fits : (words : ℕ) (width : StoreWidth) (address value : ℕ) (x : Plain) → PlainFits words x → IsWord value
+    → PlainFits words (record x { stack = stack_set width address value x.stack })
 set_fits words width address value x h v =
     let old : ℕ = slice_index x.stack.words (address / 4) in
-    refit words x h h.regs (each_set IsWord x.stack.words (address / 4) (merged width address old value) h.stack (merged_word width address old value (each_index x.stack.words (address / 4) h.stack) v)) h.private h.base h.offset h.transfer
+    refit words x h h.regs (each_set IsWord x.stack.words (address / 4) (merged width address old value) h.stack
+    (merged_word width address old value (each_index x.stack.words (address / 4) h.stack) v)) h.private h.base
+    h.offset h.transfer
 
-advances_fit : (words : ℕ) (b : Slots) (size : ℕ) (x : Plain) → PlainFits words x → fetched_at x.site.image x.base x.offset ≡ Found b size → PlainFits words (advanced size b x)
+advances_fit : (words : ℕ) (b : Slots) (size : ℕ) (x : Plain) → PlainFits words x
+    → fetched_at x.site.image x.base x.offset ≡ Found b size → PlainFits words (advanced size b x)
 advances_fit words b size x h found =
-    let fits : FetchFits x.offset (Found b size) = subst (FetchFits x.offset) found (fetched_fits x.site.image x.base x.offset h.code) in
-    refit words x h (after_bundle_words x.stack.st x.stack.ss b x.regs h.regs fits.0) h.stack h.private h.base fits.1 h.transfer
+    let fits : FetchFits x.offset (Found b size) =
+    subst (FetchFits x.offset) found (fetched_fits x.site.image x.base x.offset h.code) in
+    refit words x h (after_bundle_words x.stack.st x.stack.ss b x.regs h.regs fits.0) h.stack h.private h.base
+    fits.1 h.transfer
 
 starts_fit : (words target count : ℕ) (c : Core) → InRange words c → InRange words (with_start target count c)
 starts_fit words target count c h =
     let place = started_place (answer_to (port_to c.plain.interface target) count) target count c.plain.interface in
-    let is = interface_fits words (started target count c.plain.interface) c h (started_in_range c.plain.interface target count h.plain.interface) place.0 place.1 in
+    let is = interface_fits words (started target count c.plain.interface) c h
+    (started_in_range c.plain.interface target count h.plain.interface) place.0 place.1 in
     record { plain = is.plain; cached = h.cached }
 
 steps_fit : (words : ℕ) → Steps IsWord (InRange words)
 steps_fit words = record {
-  waits = λ c t free h of. record { plain = refit words c.plain h.plain h.plain.regs h.plain.stack h.plain.private h.plain.base h.plain.offset (then_fits t.then of); cached = h.cached };
+  waits = λ c t free h of. record {
+    plain = refit words c.plain h.plain h.plain.regs h.plain.stack h.plain.private
+        h.plain.base h.plain.offset (then_fits t.then of);
+    cached = h.cached;
+  };
   value = λ c rd width address word h small. record {
-    plain = refit words c.plain h.plain (arrived_words rd (picked width address word) c.plain.regs h.plain.regs (picked_word width address word small)) h.plain.stack h.plain.private h.plain.base h.plain.offset h.plain.transfer;
+    plain = refit words c.plain h.plain (arrived_words rd (picked width address word) c.plain.regs h.plain.regs
+        (picked_word width address word small)) h.plain.stack h.plain.private h.plain.base h.plain.offset
+        h.plain.transfer;
     cached = h.cached;
   };
   advances = λ c b size h found. record { plain = advances_fit words b size c.plain h.plain found; cached = h.cached };
   stacks = λ c func count h room. record { plain = stack_fits words func count c.plain h.plain; cached = h.cached };
-  sets = λ c width address value h v. record { plain = set_fits words width address value c.plain h.plain v; cached = h.cached };
-  scratch = λ c word value h v. scratch_fits words word value c h v;
-  private = λ c word value h v. record {
-    plain = refit words c.plain h.plain h.plain.regs h.plain.stack (put_fits word value c.plain.private v h.plain.private) h.plain.base h.plain.offset h.plain.transfer;
+  sets = λ c width address value h v. record {
+    plain = set_fits words width address value c.plain h.plain v;
     cached = h.cached;
   };
-  source = λ c target value h. interface_fits words (with_source target value c.plain.interface) c h (source_in_range c.plain.interface target value h.plain.interface) refl refl;
-  target = λ c target value h. interface_fits words (with_target target value c.plain.interface) c h (target_in_range c.plain.interface target value h.plain.interface) refl refl;
+  scratch = λ c word value h v. scratch_fits words word value c h v;
+  private = λ c word value h v. record {
+    plain = refit words c.plain h.plain h.plain.regs h.plain.stack
+        (put_fits word value c.plain.private v h.plain.private) h.plain.base h.plain.offset h.plain.transfer;
+    cached = h.cached;
+  };
+  source = λ c target value h. interface_fits words (with_source target value c.plain.interface) c h
+      (source_in_range c.plain.interface target value h.plain.interface) refl refl;
+  target = λ c target value h. interface_fits words (with_target target value c.plain.interface) c h
+      (target_in_range c.plain.interface target value h.plain.interface) refl refl;
   starts = λ c target count h. starts_fit words target count c h;
-  caches = λ c access h of. record { plain = h.plain; cached = each-append AccessFits c.seen.cached (access ∷ []) h.cached (access_fits access of, tt) };
+  caches = λ c access h of. record {
+    plain = h.plain;
+    cached = each-append AccessFits c.seen.cached
+        (access ∷ []) h.cached (access_fits access of, tt);
+  };
   counts = λ c access h. record { plain = h.plain; cached = h.cached };
 }
 
 -- ---- flows
 
 -- a place where a function starts is a word
-start_word : (starts : List ℕ) (base : ℕ) → Each IsWord starts → list_any (λ start. base == start) starts ≡ true → IsWord base
+start_word : (starts : List ℕ) (base : ℕ) → Each IsWord starts → list_any (λ start. base == start) starts
+    ≡ true → IsWord base
 start_word [] base small found = absurd (true≢false (sym found))
 start_word (start ∷ starts) base small found = elim (cases_eq base start) [
   | inl same ↦ subst IsWord (sym same) small.0
@@ -193,44 +238,58 @@ start_word (start ∷ starts) base small found = elim (cases_eq base start) [
 ]
 
 fetch_fits : (words : ℕ) (misses : List Method) (method : Method) → ThenFits (fetch_of misses method).then
-fetch_fits words misses method = elim (is_among method.function (resident misses)) as (λ b. let t : Transfer = elim b [ true ↦ nothing | false ↦ reads (method.words + 1) then_on.Nothing ] in ThenFits t.then) [
-  | true ↦ tt
-  | false ↦ tt
-]
+fetch_fits words misses method = elim (is_among method.function (resident misses)) as (λ b. let t : Transfer =
+    elim b [ true ↦ nothing | false ↦ reads (method.words + 1) then_on.Nothing ] in ThenFits t.then) [
+      | true ↦ tt
+      | false ↦ tt
+    ]
 
-entered_fits : (words base offset : ℕ) (c : Core) → InRange words c → IsWord base → IsWord offset → InRange words (entered base offset c)
+entered_fits : (words base offset : ℕ) (c : Core) → InRange words c → IsWord base → IsWord offset
+    → InRange words (entered base offset c)
 entered_fits words base offset c h b o = record {
-  plain = refit words c.plain h.plain h.plain.regs h.plain.stack h.plain.private b o (fetch_fits words c.seen.misses (method_at c.plain.site.image base));
+  plain = refit words c.plain h.plain h.plain.regs h.plain.stack h.plain.private b o (fetch_fits words c.seen.misses
+      (method_at c.plain.site.image base));
   cached = h.cached;
 }
 
-size_word : (image : Parts) (base offset : ℕ) → HasCode image → nat_lt offset (size_at image base) ≡ true → IsWord offset
+size_word : (image : Parts) (base offset : ℕ) → HasCode image → nat_lt offset (size_at image base) ≡ true
+    → IsWord offset
 size_word image base offset code inside =
     let small : IsWord (size_at image base) = code.words (base - 1) in
     let below : offset < size_at image base = grind (arith, nat_tests) in omega (arith, small)
 
-place_words : (image : Parts) (base offset : ℕ) → HasCode image → has_place image base offset ≡ true → IsWord base × IsWord offset
+place_words : (image : Parts) (base offset : ℕ) → HasCode image → has_place image base offset ≡ true → IsWord base
+    × IsWord offset
 place_words image base offset code placed =
     let parts = and_parts _ _ placed in
     (start_word image.starts base code.starts parts.0, size_word image base offset code parts.1)
 
-gone_fits : (words : ℕ) (goal : Goal) (c : Core) → InRange words c → is_placed goal c.plain ≡ true → InRange words (gone goal c)
+gone_fits : (words : ℕ) (goal : Goal) (c : Core) → InRange words c → is_placed goal c.plain ≡ true
+    → InRange words (gone goal c)
 gone_fits words (Within offset) c h placed = record {
-  plain = refit words c.plain h.plain h.plain.regs h.plain.stack h.plain.private h.plain.base (size_word c.plain.site.image c.plain.base offset h.plain.code placed) h.plain.transfer;
+  plain = refit words c.plain h.plain h.plain.regs h.plain.stack h.plain.private h.plain.base
+      (size_word c.plain.site.image c.plain.base offset h.plain.code placed) h.plain.transfer;
   cached = h.cached;
 }
 gone_fits words (Call target) c h placed =
     entered_fits words target 0 (with_plain with_return c) (record {
-      plain = refit words c.plain h.plain (with_return_words c.plain.base c.plain.offset c.plain.regs h.plain.regs h.plain.base h.plain.offset) h.plain.stack h.plain.private h.plain.base h.plain.offset h.plain.transfer;
+      plain = refit words c.plain h.plain (with_return_words c.plain.base c.plain.offset c.plain.regs h.plain.regs
+          h.plain.base h.plain.offset) h.plain.stack h.plain.private h.plain.base h.plain.offset h.plain.transfer;
       cached = h.cached;
     }) (place_words c.plain.site.image target 0 h.plain.code placed).0 (omega arith)
-gone_fits words (Fill target) c h placed = entered_fits words target 0 c h (place_words c.plain.site.image target 0 h.plain.code placed).0 (omega arith)
+gone_fits words (Fill target) c h placed =
+    entered_fits words target 0 c h (place_words c.plain.site.image target 0 h.plain.code placed).0 (omega arith)
 gone_fits words (Return base offset) c h placed =
-    entered_fits words base offset c h (place_words c.plain.site.image base offset h.plain.code placed).0 (place_words c.plain.site.image base offset h.plain.code placed).1
+    entered_fits words base offset c h (place_words c.plain.site.image base offset h.plain.code placed).0
+    (place_words c.plain.site.image base offset h.plain.code placed).1
 
 turns_fit : (words : ℕ) → Turns (InRange words)
 turns_fit words = record {
-  stops = λ c fault cycle h. record { plain = refit words c.plain h.plain h.plain.regs h.plain.stack h.plain.private h.plain.base h.plain.offset h.plain.transfer; cached = h.cached };
+  stops = λ c fault cycle h. record {
+    plain = refit words c.plain h.plain h.plain.regs h.plain.stack h.plain.private
+        h.plain.base h.plain.offset h.plain.transfer;
+    cached = h.cached;
+  };
   goes = λ c goal h placed. gone_fits words goal c h placed;
 }
 
@@ -239,7 +298,8 @@ flowed_fits words = flow_kept (InRange words) (turns_fit words)
 
 -- ---- the act
 
-fits_kept : {X : Type 0} (P Q : X → Type 0) (words : ℕ) → ((x : X) → P x → Q x) → (p : Prog X) → Keeps (λ word. word < words) IsWord P p → IsFit Q words p
+fits_kept : {X : Type 0} (P Q : X → Type 0) (words : ℕ) → ((x : X) → P x → Q x) → (p : Prog X)
+    → Keeps (λ word. word < words) IsWord P p → IsFit Q words p
 fits_kept P Q words so (done x) h = so x h
 fits_kept P Q words so (get word go_on) h = (h.0, λ value small. fits_kept P Q words so (go_on value) (h.1 value small))
 fits_kept P Q words so (set word value rest) h = (h.0, h.1, fits_kept P Q words so rest h.2)
@@ -255,17 +315,21 @@ module _ (words cycle : ℕ) where
   acted_fits p h = fits_kept Remains (ActedFits words) words (λ y k. record { core = k.0; pending_store = k.1 }) p h
 
   pub fit_bundle : (c : Core) → InRange words c → IsFit (ActedFits words) words (bundle cycle c)
-  fit_bundle c h = acted_fits (bundle cycle c) (acts_bundle Below IsWord (InRange words) (gives_words words) (steps_fit words) (turns_fit words) cycle c h)
+  fit_bundle c h = acted_fits (bundle cycle c) (acts_bundle Below IsWord (InRange words) (gives_words words)
+      (steps_fit words) (turns_fit words) cycle c h)
 
   pub fit_transaction : (c : Core) → InRange words c → IsFit (ActedFits words) words (transaction cycle c)
-  fit_transaction c h = acted_fits (transaction cycle c) (acts_transaction Below IsWord (InRange words) (gives_words words) (steps_fit words) cycle c h)
+  fit_transaction c h = acted_fits (transaction cycle c) (acts_transaction Below IsWord (InRange words)
+      (gives_words words) (steps_fit words) cycle c h)
 
   fit_own : (c : Core) → InRange words c → IsFit (ActedFits words) words (own cycle c)
-  fit_own c h = acted_fits (own cycle c) (acts_own Below IsWord (InRange words) (gives_words words) (steps_fit words) (turns_fit words) cycle c h)
+  fit_own c h = acted_fits (own cycle c) (acts_own Below IsWord (InRange words) (gives_words words) (steps_fit words)
+      (turns_fit words) cycle c h)
 
 pub fit_settled : (words : ℕ) (y : Acted) → ActedFits words y → IsFit (InRange words) words (settled y)
 fit_settled words y h =
-    fits_kept (InRange words) (InRange words) words (λ c k. k) (settled y) (acts_settled (λ word. word < words) IsWord (InRange words) (gives_words words) (steps_fit words) y (h.core, h.pending_store))
+    fits_kept (InRange words) (InRange words) words (λ c k. k) (settled y) (acts_settled (λ word. word < words) IsWord
+    (InRange words) (gives_words words) (steps_fit words) y (h.core, h.pending_store))
 
 -- what the interface does first in a phase, with what the core does then
 module _ (words cycle : ℕ) (c : Core) (h : InRange words c) where
@@ -276,27 +340,38 @@ module _ (words cycle : ℕ) (c : Core) (h : InRange words c) where
   interface_left i is = interface_fits words i c h is.0 is.1.core is.1.cores
 
   pub fit_delivered : IsFit (InRange words) words (delivered cycle c)
-  fit_delivered = fit-then (λ i. ni.InRange i × IsSamePlace c.plain.interface i) (InRange words) words (ni_turn.delivery cycle c.plain.interface) (λ i. done (with_interface c i))
-      (fit_leaves ni.InRange (IsSamePlace c.plain.interface) words (ni_turn.delivery cycle c.plain.interface) (fit_turn c.plain.interface 0 cycle words h.plain.interface room) (same_delivery cycle c.plain.interface)) interface_left
+  fit_delivered = fit-then (λ i. ni.InRange i × IsSamePlace c.plain.interface i) (InRange words) words
+      (ni_turn.delivery cycle c.plain.interface) (λ i. done (with_interface c i))
+      (fit_leaves ni.InRange (IsSamePlace c.plain.interface) words (ni_turn.delivery cycle c.plain.interface)
+      (fit_turn c.plain.interface 0 cycle words h.plain.interface room) (same_delivery cycle c.plain.interface))
+      interface_left
 
   pub fit_injected : IsFit (InRange words) words (injected cycle c)
-  fit_injected = fit-then (λ i. ni.InRange i × IsSamePlace c.plain.interface i) (InRange words) words (ni_turn.injection cycle c.plain.interface) (λ i. done (with_interface c i))
-      (fit_leaves ni.InRange (IsSamePlace c.plain.interface) words (ni_turn.injection cycle c.plain.interface) (fit_turn c.plain.interface 1 cycle words h.plain.interface room) (same_injection cycle c.plain.interface)) interface_left
+  fit_injected = fit-then (λ i. ni.InRange i × IsSamePlace c.plain.interface i) (InRange words) words
+      (ni_turn.injection cycle c.plain.interface) (λ i. done (with_interface c i))
+      (fit_leaves ni.InRange (IsSamePlace c.plain.interface) words (ni_turn.injection cycle c.plain.interface)
+      (fit_turn c.plain.interface 1 cycle words h.plain.interface room) (same_injection cycle c.plain.interface))
+      interface_left
 
   fit_acted : IsFit (ActedFits words) words (acted cycle c)
-  fit_acted = fit-then (λ i. ni.InRange i × IsSamePlace c.plain.interface i) (ActedFits words) words (ni_turn.injection cycle c.plain.interface) (λ i. own cycle (with_interface c i))
-      (fit_leaves ni.InRange (IsSamePlace c.plain.interface) words (ni_turn.injection cycle c.plain.interface) (fit_turn c.plain.interface 1 cycle words h.plain.interface room) (same_injection cycle c.plain.interface))
+  fit_acted = fit-then (λ i. ni.InRange i × IsSamePlace c.plain.interface i) (ActedFits words) words
+      (ni_turn.injection cycle c.plain.interface) (λ i. own cycle (with_interface c i))
+      (fit_leaves ni.InRange (IsSamePlace c.plain.interface) words (ni_turn.injection cycle c.plain.interface)
+      (fit_turn c.plain.interface 1 cycle words h.plain.interface room) (same_injection cycle c.plain.interface))
       (λ i is. fit_own words cycle (with_interface c i) (interface_left i is))
 
-pub core_keeps : (words phase cycle : ℕ) (c : Core) → phase ≤ 1 → InRange words c → IsFit (InRange words) words (turn phase cycle c)
+pub core_keeps : (words phase cycle : ℕ) (c : Core) → phase ≤ 1 → InRange words c
+    → IsFit (InRange words) words (turn phase cycle c)
 core_keeps words zero cycle c last h = fit_delivered words cycle c h
 core_keeps words (suc phase) cycle c last h =
-    fit-then (ActedFits words) (InRange words) words (acted cycle c) settled (fit_acted words cycle c h) (fit_settled words)
+    fit-then (ActedFits words) (InRange words) words (acted cycle c) settled (fit_acted words cycle c h)
+    (fit_settled words)
 
 zeros_fit : (word : ℕ) → IsWord (zeros word)
 zeros_fit word = omega arith
 
-fresh_fits : (words : ℕ) (status : Status) (site : Site) (private : ℕ → ℕ) → SiteFits words site → ((word : ℕ) → IsWord (private word)) → PlainFits words (fresh status site private)
+fresh_fits : (words : ℕ) (status : Status) (site : Site) (private : ℕ → ℕ) → SiteFits words site
+    → ((word : ℕ) → IsWord (private word)) → PlainFits words (fresh status site private)
 fresh_fits words status site private h small = record {
   room = h.room;
   code = h.code;
@@ -312,14 +387,20 @@ fresh_fits words status site private h small = record {
   transfer = tt;
 }
 
-pub begun_in_range : (words : ℕ) (site : Site) (input : List ℕ) → SiteFits words site → Each IsWord site.image.initial → Each IsWord input → InRange words (begun site input)
+pub begun_in_range : (words : ℕ) (site : Site) (input : List ℕ) → SiteFits words site → Each IsWord site.image.initial
+    → Each IsWord input → InRange words (begun site input)
 begun_in_range words site input h initial given =
     let image : Parts = site.image in
     let private : (word : ℕ) → IsWord (first_private image input word) =
-    overlaid_words image.input_at (take image.input_room input) (overlaid 4 image.initial zeros) (each_take IsWord image.input_room input given) (overlaid_words 4 image.initial zeros initial zeros_fit) in
+    overlaid_words image.input_at (take image.input_room input) (overlaid 4 image.initial zeros)
+    (each_take IsWord image.input_room input given) (overlaid_words 4 image.initial zeros initial zeros_fit) in
     let x : Plain = fresh Running site (first_private image input) in
     let is : PlainFits words x = fresh_fits words Running site (first_private image input) h private in
-    record { plain = refit words x is is.regs is.stack is.private is.base is.offset (fetch_fits words [] (method_at image (entry image))); cached = tt }
+    record {
+      plain = refit words x is is.regs is.stack is.private is.base is.offset
+          (fetch_fits words [] (method_at image (entry image)));
+      cached = tt;
+    }
 
 pub idle_in_range : (words : ℕ) (site : Site) → SiteFits words site → InRange words (idle site)
 idle_in_range words site h = record { plain = fresh_fits words Idle site zeros h zeros_fit; cached = tt }

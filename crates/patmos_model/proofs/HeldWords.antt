@@ -44,44 +44,54 @@ pub freed_words : (n : ℕ) (s : Stack) → Each IsWord s.words → Each IsWord 
 freed_words n s h = each_drop IsWord n s.words h
 
 -- the words of a memory from a place on
-pub words_from_fit : (memory : ℕ → ℕ) (from count : ℕ) → ((w : ℕ) → IsWord (memory w)) → Each IsWord (words_from memory from count)
+pub words_from_fit : (memory : ℕ → ℕ) (from count : ℕ) → ((w : ℕ) → IsWord (memory w))
+    → Each IsWord (words_from memory from count)
 words_from_fit memory from zero h = tt
 words_from_fit memory from (suc count) h = (h from, words_from_fit memory (from + 1) count h)
 
 -- a memory with one word put
-pub put_fits : (at value : ℕ) (memory : ℕ → ℕ) → IsWord value → ((w : ℕ) → IsWord (memory w)) → (w : ℕ) → IsWord (put at value memory w)
+pub put_fits : (at value : ℕ) (memory : ℕ → ℕ) → IsWord value → ((w : ℕ) → IsWord (memory w)) → (w : ℕ)
+    → IsWord (put at value memory w)
 put_fits at value memory h k w = either_word (at == w) value (memory w) h (k w)
 
 -- a memory with words put from a place on
-pub with_words_fit : (words : List ℕ) (from : ℕ) (memory : ℕ → ℕ) → Each IsWord words → ((w : ℕ) → IsWord (memory w)) → (w : ℕ) → IsWord (with_words from words memory w)
+pub with_words_fit : (words : List ℕ) (from : ℕ) (memory : ℕ → ℕ) → Each IsWord words → ((w : ℕ) → IsWord (memory w))
+    → (w : ℕ) → IsWord (with_words from words memory w)
 with_words_fit [] from memory h k = k
 with_words_fit (word ∷ words) from memory h k =
     with_words_fit words (from + 1) (put from word memory) h.1 (put_fits from word memory h.0 k)
 
 -- a memory with words laid over it from a place on
-pub overlaid_words : (from : ℕ) (words : List ℕ) (memory : ℕ → ℕ) → Each IsWord words → ((w : ℕ) → IsWord (memory w)) → (w : ℕ) → IsWord (overlaid from words memory w)
+pub overlaid_words : (from : ℕ) (words : List ℕ) (memory : ℕ → ℕ) → Each IsWord words → ((w : ℕ) → IsWord (memory w))
+    → (w : ℕ) → IsWord (overlaid from words memory w)
 overlaid_words from words memory h k w =
-    elim (nat_le from w && nat_lt w (from + length words)) as (λ b. IsWord (elim b [ true ↦ slice_index words (w - from) | false ↦ memory w ])) [
+    elim (nat_le from w && nat_lt w (from + length words)) as (λ b. IsWord
+    (elim b [ true ↦ slice_index words (w - from) | false ↦ memory w ])) [
       | true ↦ each_index words (w - from) h
       | false ↦ k w
     ]
 
 -- the last word at an address
-last_fits : (address : ℕ) (latest : List cache.Access) → Each AccessFits latest → IsWord (cache.last_word address latest)
+last_fits : (address : ℕ) (latest : List cache.Access) → Each AccessFits latest
+    → IsWord (cache.last_word address latest)
 last_fits address [] h = omega arith
 last_fits address (cache.Load other None ∷ before) h = last_fits address before h.1
 last_fits address (cache.Load other (Some words) ∷ before) h =
-    either_word (cache.line_of other == cache.line_of address) (slice_index words (cache.place_of address)) (cache.last_word address before) (each_index words (cache.place_of address) h.0) (last_fits address before h.1)
+    either_word (cache.line_of other == cache.line_of address) (slice_index words (cache.place_of address))
+    (cache.last_word address before) (each_index words (cache.place_of address) h.0) (last_fits address before h.1)
 last_fits address (cache.Store other value ∷ before) h =
     either_word (other / 4 == address / 4) value (cache.last_word address before) h.0 (last_fits address before h.1)
 
 -- the accesses from the latest back
 each_back : (accesses : List cache.Access) → Each AccessFits accesses → Each AccessFits (reverse accesses)
 each_back [] h = tt
-each_back (a ∷ accesses) h = subst (Each AccessFits) (sym (reverse_onto accesses a [])) (each-append AccessFits (reverse accesses) (a ∷ []) (each_back accesses h.1) (h.0, tt))
+each_back (a ∷ accesses) h = subst (Each AccessFits) (sym (reverse_onto accesses a []))
+    (each-append AccessFits (reverse accesses) (a ∷ []) (each_back accesses h.1) (h.0, tt))
 
 -- a word that the cache has
-pub cached_words : (accesses : List cache.Access) (address word : ℕ) → Each AccessFits accesses → cache.cached_word accesses address ≡ Some word → IsWord word
+pub cached_words : (accesses : List cache.Access) (address word : ℕ) → Each AccessFits accesses
+    → cache.cached_word accesses address ≡ Some word → IsWord word
 cached_words accesses address word h e =
     let latest : List cache.Access = reverse accesses in
-    subst IsWord (cond_some (cache.is_present address latest) (cache.last_word address latest) word e).1 (last_fits address latest (each_back accesses h))
+    subst IsWord (cond_some (cache.is_present address latest) (cache.last_word address latest) word e).1
+    (last_fits address latest (each_back accesses h))

@@ -21,7 +21,8 @@ use Rattle.patmos_model.specs.Cycle.{turn, own, with_interface, settled}
 nothing_left : (d : ℕ) → nat_lt 0 (port_at all_unused d).channel.left ≡ false
 nothing_left d = elim (cases_lt d 16) [
   | inl below ↦ ap (λ (p : Port). nat_lt 0 p.channel.left) (get_or-replicate 16 d unused unused below)
-  | inr past ↦ ap (λ (p : Port). nat_lt 0 p.channel.left) (get_or_past all_unused d unused (omega (arith, past, length-replicate 16 unused)))
+  | inr past ↦ ap (λ (p : Port). nat_lt 0 p.channel.left) (get_or_past all_unused d unused
+      (omega (arith, past, length-replicate 16 unused)))
 ]
 
 -- so it sends nothing, and its phase of injections does nothing
@@ -40,14 +41,17 @@ injects_nothing n core cycle =
     ]) (sends_nothing n core cycle)
 
 -- in neither phase does it do anything
-pub idle_rests : (site : Site) (cycle : ℕ) → (turn 0 cycle (idle site) ≡ done (idle site)) × (turn 1 cycle (idle site) ≡ done (idle site))
+pub idle_rests : (site : Site) (cycle : ℕ) → (turn 0 cycle (idle site) ≡ done (idle site))
+    × (turn 1 cycle (idle site) ≡ done (idle site))
 idle_rests site cycle = (
   refl,
-  ap (λ p. and_then (and_then p (λ i. own cycle (with_interface (idle site) i))) settled) (injects_nothing site.cores site.core cycle),
+  ap (λ p. and_then (and_then p (λ i. own cycle (with_interface (idle site) i))) settled)
+      (injects_nothing site.cores site.core cycle),
 )
 
 -- so before any cycle it stands as it is, having made nothing
-pub idle_stands : (n core : ℕ) (site : Site) (cycle : ℕ) → core < n → Stands (act_at turn n) n core (idle site) [] (2 * cycle * n) (idle site)
+pub idle_stands : (n core : ℕ) (site : Site) (cycle : ℕ) → core < n → Stands (act_at turn n) n core (idle site) [] (2
+    * cycle * n) (idle site)
 idle_stands n core site cycle among =
     let here : 2 * (0 + cycle) * n ≡ 2 * cycle * n = omega arith in
     subst (λ s. Stands (act_at turn n) n core (idle site) [] s (idle site)) here

@@ -20,7 +20,8 @@ byte_of a b c d (suc (suc (suc (suc i)))) h k l m = omega arith
 -- a byte of a word
 byte_small : (address word : ℕ) → byte_at address word < 256
 byte_small address word =
-    byte_of (word / 256 ^ 3 % 256) (word / 256 ^ 2 % 256) (word / 256 % 256) (word % 256) (address % 4) (omega arith) (omega arith) (omega arith) (omega arith)
+    byte_of (word / 256 ^ 3 % 256) (word / 256 ^ 2 % 256) (word / 256 % 256) (word % 256) (address % 4) (omega arith)
+    (omega arith) (omega arith) (omega arith)
 
 -- a number of 16 bits as a word
 half_extended : (n : ℕ) → n < 2 ^ 16 → IsWord (extended 16 n)
@@ -43,7 +44,8 @@ picked_word load.HalfUnsigned address word h = omega (arith, half_small address 
 picked_word load.ByteUnsigned address word h = omega (arith, byte_small address word)
 
 -- four bytes as a word, one of them replaced
-replaced_word : (a b c d i byte : ℕ) → a < 256 → b < 256 → c < 256 → d < 256 → byte < 256 → IsWord (from_be_bytes w32 (slice_set (a ∷ b ∷ c ∷ d ∷ []) i byte))
+replaced_word : (a b c d i byte : ℕ) → a < 256 → b < 256 → c < 256 → d < 256 → byte < 256
+    → IsWord (from_be_bytes w32 (slice_set (a ∷ b ∷ c ∷ d ∷ []) i byte))
 replaced_word a b c d zero byte h k l m n = omega arith
 replaced_word a b c d (suc zero) byte h k l m n = omega arith
 replaced_word a b c d (suc (suc zero)) byte h k l m n = omega arith
@@ -53,10 +55,13 @@ replaced_word a b c d (suc (suc (suc (suc i)))) byte h k l m n = omega arith
 -- a word with a byte replaced
 with_byte_word : (address byte word : ℕ) → byte < 256 → IsWord (with_byte address byte word)
 with_byte_word address byte word h =
-    replaced_word (word / 256 ^ 3 % 256) (word / 256 ^ 2 % 256) (word / 256 % 256) (word % 256) (address % 4) byte (omega arith) (omega arith) (omega arith) (omega arith) h
+    replaced_word (word / 256 ^ 3 % 256) (word / 256 ^ 2 % 256) (word / 256 % 256) (word % 256) (address % 4) byte
+    (omega arith) (omega arith) (omega arith) (omega arith) h
 
 -- what a store makes
-pub merged_word : (width : StoreWidth) (address word value : ℕ) → IsWord word → IsWord value → IsWord (merged width address word value)
+pub merged_word : (width : StoreWidth) (address word value : ℕ) → IsWord word → IsWord value
+    → IsWord (merged width address word value)
 merged_word store.Word address word value h k = k
-merged_word store.Half address word value h k = with_byte_word (address + 1) (value % 2 ^ 8) (with_byte address (value / 2 ^ 8 % 2 ^ 8) word) (omega arith)
+merged_word store.Half address word value h k =
+    with_byte_word (address + 1) (value % 2 ^ 8) (with_byte address (value / 2 ^ 8 % 2 ^ 8) word) (omega arith)
 merged_word store.Byte address word value h k = with_byte_word address (value % 2 ^ 8) word (omega arith)

@@ -12,7 +12,8 @@ use Rattle.patmos_sem.specs.declared.writes.Write.TheVariants as write
 use Rattle.patmos_sem.specs.Effects.{write_of, begun, asked}
 use Rattle.patmos_sem.specs.Bundles.{slot_write, slot_begun, slot_asked, effect_of, OnLoad}
 
-pub begins_nothing : (b : Slots) (regs : Registers) (left : Pending) → left ≡ slot_begun regs b.first → OnLoad (effect_of b regs) (left ≡ pending.Nothing)
+pub begins_nothing : (b : Slots) (regs : Registers) (left : Pending) → left ≡ slot_begun regs b.first
+    → OnLoad (effect_of b regs) (left ≡ pending.Nothing)
 begins_nothing b regs left same = by (holds regs b.first.guard) b.first.op same
   where
     by : (guard : Bool) (op : Op) → left ≡ (if guard then begun regs op else pending.Nothing)
@@ -22,7 +23,8 @@ begins_nothing b regs left same = by (holds regs b.first.guard) b.first.op same
     by true _ h = tt
 
 -- an operation that is no product leaves nothing pending, whether or not its guard is true
-pub none_begun : (regs : Registers) (i : Instr) → begun regs i.op ≡ pending.Nothing → slot_begun regs i ≡ pending.Nothing
+pub none_begun : (regs : Registers) (i : Instr) → begun regs i.op ≡ pending.Nothing → slot_begun regs i
+    ≡ pending.Nothing
 none_begun regs i none = by (holds regs i.guard)
   where
     by : (guard : Bool) → (if guard then begun regs i.op else pending.Nothing) ≡ pending.Nothing
@@ -30,10 +32,12 @@ none_begun regs i none = by (holds regs i.guard)
     by false = refl
 
 -- an instruction that asks for something writes nothing and begins nothing
-pub asking_writes : (st ss : ℕ) (regs : Registers) (i : Instr) → slot_asked regs i ≢ effect.Nothing → slot_write st ss regs i ≡ write.Nothing
+pub asking_writes : (st ss : ℕ) (regs : Registers) (i : Instr) → slot_asked regs i ≢ effect.Nothing
+    → slot_write st ss regs i ≡ write.Nothing
 asking_writes st ss regs i asks = by (holds regs i.guard) i.op asks
   where
-    by : (guard : Bool) (op : Op) → (if guard then asked regs op else effect.Nothing) ≢ effect.Nothing → (if guard then write_of st ss regs op else write.Nothing) ≡ write.Nothing
+    by : (guard : Bool) (op : Op) → (if guard then asked regs op else effect.Nothing) ≢ effect.Nothing
+        → (if guard then write_of st ss regs op else write.Nothing) ≡ write.Nothing
     by false op h = refl
     by true (Mul unsigned ra rb) h = refl
     by true (Stack func count) h = refl
@@ -45,10 +49,12 @@ asking_writes st ss regs i asks = by (holds regs i.guard) i.op asks
     by true Return h = refl
     by true _ h = absurd (h refl)
 
-pub asking_begins : (regs : Registers) (i : Instr) → slot_asked regs i ≢ effect.Nothing → slot_begun regs i ≡ pending.Nothing
+pub asking_begins : (regs : Registers) (i : Instr) → slot_asked regs i ≢ effect.Nothing → slot_begun regs i
+    ≡ pending.Nothing
 asking_begins regs i asks = by (holds regs i.guard) i.op asks
   where
-    by : (guard : Bool) (op : Op) → (if guard then asked regs op else effect.Nothing) ≢ effect.Nothing → (if guard then begun regs op else pending.Nothing) ≡ pending.Nothing
+    by : (guard : Bool) (op : Op) → (if guard then asked regs op else effect.Nothing) ≢ effect.Nothing
+        → (if guard then begun regs op else pending.Nothing) ≡ pending.Nothing
     by false op h = refl
     by true (Mul unsigned ra rb) h = absurd (h refl)
     by true _ h = refl

@@ -68,7 +68,7 @@ fn write_single(regs: &mut Regs, instr: &Instr, st: u32, ss: u32)
     ensures pending { regs.new.pending ≡ slot_begun regs.old instr.now }
 {
     if regs.waits() || is_product(&instr.op) {
-        write_behind(regs, instr, st, ss);
+        write_after(regs, instr, st, ss);
     } else {
         write_alone(regs, instr, st, ss);
     }
@@ -89,7 +89,7 @@ fn write_alone(regs: &mut Regs, instr: &Instr, st: u32, ss: u32)
 
 // carries it out where something may be pending, or a product begins
 #[inline(never)]
-fn write_behind(regs: &mut Regs, instr: &Instr, st: u32, ss: u32)
+fn write_after(regs: &mut Regs, instr: &Instr, st: u32, ss: u32)
     ensures registers { regs.new ≡ after_bundle st ss (record { first = instr.now; second = None }) regs.old }
     ensures pending { regs.new.pending ≡ slot_begun regs.old instr.now }
 {

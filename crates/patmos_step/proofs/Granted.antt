@@ -23,10 +23,13 @@ granted_before (effect.Load space width rd address) x h = h
 granted_before (effect.Store space width address value) x h = h
 granted_before (effect.StackOp func count) x h = passed (has_room func count x.stack) trap.Stack h
 
-same_grant : (asked : Effect) (x : Plain) (regs : Registers) (offset : ℕ) (flow : Option Flow) → IsGranted asked x → IsGranted asked (record x { regs = regs; offset = offset; flow = flow })
+same_grant : (asked : Effect) (x : Plain) (regs : Registers) (offset : ℕ) (flow : Option Flow) → IsGranted asked x
+    → IsGranted asked (record x { regs = regs; offset = offset; flow = flow })
 same_grant effect.Nothing x regs offset flow h = h
 same_grant _ x regs offset flow h = h
 
 -- it is still granted when the registers, the offset and the flow have changed
-pub is_granted : (asked : Effect) (x y : Plain) (regs : Registers) (offset : ℕ) (flow : Option Flow) → fault_of x asked ≡ None → y ≡ record x { regs = regs; offset = offset; flow = flow } → IsGranted asked y
-is_granted asked x y regs offset flow h same = subst (IsGranted asked) (sym same) (same_grant asked x regs offset flow (granted_before asked x h))
+pub is_granted : (asked : Effect) (x y : Plain) (regs : Registers) (offset : ℕ) (flow : Option Flow) → fault_of x asked
+    ≡ None → y ≡ record x { regs = regs; offset = offset; flow = flow } → IsGranted asked y
+is_granted asked x y regs offset flow h same =
+    subst (IsGranted asked) (sym same) (same_grant asked x regs offset flow (granted_before asked x h))

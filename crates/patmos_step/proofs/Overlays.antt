@@ -20,31 +20,55 @@ module _ (old words : List ℕ) (from : ℕ) (fits : from + length words ≤ len
   over_at : (word : ℕ) → slice_index (over from words old) word ≡ overlaid from words (slice_index old) word
   over_at word = elim (cases_lt word from) [
     | inl before ↦
-        get_or_append_left (take from old) (words ++ drop (length words) (drop from old)) 0 word (omega (arith, before, front_len))
+        get_or_append_left (take from old) (words ++ drop (length words) (drop from old)) 0 word
+        (omega (arith, before, front_len))
         ∙ get_or-take from old word 0 before
-        ∙ sym (outside (let h : (nat_le from word && nat_lt word (from + length words)) ≡ false = grind (arith, nat_tests, before) in h))
+        ∙ sym (outside (let h : (nat_le from word && nat_lt word (from + length words)) ≡ false = grind (
+          arith,
+          nat_tests,
+          before,
+        ) in h))
     | inr after ↦
         get_or-append_right (take from old) (words ++ drop (length words) (drop from old)) from word 0 front_len after
         ∙ behind after
   ]
     where
-      outside : (nat_le from word && nat_lt word (from + length words)) ≡ false → overlaid from words (slice_index old) word ≡ slice_index old word
-      outside is = ap (λ b. elim b as (λ _. ℕ) [ true ↦ slice_index words (word - from) | false ↦ slice_index old word ]) is
+      outside : (nat_le from word && nat_lt word (from + length words)) ≡ false
+          → overlaid from words (slice_index old) word ≡ slice_index old word
+      outside is =
+          ap (λ b. elim b as (λ _. ℕ) [ true ↦ slice_index words (word - from) | false ↦ slice_index old word ]) is
 
-      inside : (nat_le from word && nat_lt word (from + length words)) ≡ true → overlaid from words (slice_index old) word ≡ slice_index words (word - from)
-      inside is = ap (λ b. elim b as (λ _. ℕ) [ true ↦ slice_index words (word - from) | false ↦ slice_index old word ]) is
+      inside : (nat_le from word && nat_lt word (from + length words)) ≡ true
+          → overlaid from words (slice_index old) word ≡ slice_index words (word - from)
+      inside is = ap (λ b. elim b as (λ _. ℕ) [ true ↦ slice_index words (word - from) | false ↦ slice_index old word ])
+          is
 
-      behind : from ≤ word → slice_index (words ++ drop (length words) (drop from old)) (word - from) ≡ overlaid from words (slice_index old) word
+      behind : from ≤ word → slice_index (words ++ drop (length words) (drop from old)) (word - from)
+          ≡ overlaid from words (slice_index old) word
       behind after = elim (cases_lt (word - from) (length words)) [
         | inl among ↦
             get_or_append_left words (drop (length words) (drop from old)) 0 (word - from) among
-            ∙ sym (inside (let h : (nat_le from word && nat_lt word (from + length words)) ≡ true = grind (arith, nat_tests, after, among) in h))
+            ∙ sym (inside (let h : (nat_le from word && nat_lt word (from + length words)) ≡ true = grind (
+              arith,
+              nat_tests,
+              after,
+              among,
+            ) in h))
         | inr past ↦
             get_or-append_right words (drop (length words) (drop from old)) (length words) (word - from) 0 refl past
             ∙ get_or-drop (length words) (drop from old) (word - from - length words) 0
             ∙ get_or-drop from old (length words + (word - from - length words)) 0
-            ∙ ap (slice_index old) (let e : from + (length words + (word - from - length words)) ≡ word = omega (arith, after, past) in e)
-            ∙ sym (outside (let h : (nat_le from word && nat_lt word (from + length words)) ≡ false = grind (arith, nat_tests, after, past) in h))
+            ∙ ap (slice_index old) (let e : from + (length words + (word - from - length words)) ≡ word = omega (
+              arith,
+              after,
+              past,
+            ) in e)
+            ∙ sym (outside (let h : (nat_le from word && nat_lt word (from + length words)) ≡ false = grind (
+              arith,
+              nat_tests,
+              after,
+              past,
+            ) in h))
       ]
 
   over_is : slice_index (over from words old) ≡ overlaid from words (slice_index old)
@@ -67,5 +91,6 @@ pub over_parts : (old words prefix middle back rest : List ℕ) (from : ℕ) →
     → slice_index (prefix ++ (middle ++ back)) ≡ overlaid from words (slice_index old)
 over_parts old words prefix middle back rest from fits prefix_is rest_is middle_is back_is =
     let behind : back ≡ drop (length words) (drop from old) = back_is ∙ ap (drop (length words)) rest_is in
-    let cut : slice_index (prefix ++ (middle ++ back)) ≡ slice_index (over from words old) = λ i. slice_index (prefix_is i ++ (middle_is i ++ behind i)) in
+    let cut : slice_index (prefix ++ (middle ++ back)) ≡ slice_index (over from words old) =
+    λ i. slice_index (prefix_is i ++ (middle_is i ++ behind i)) in
     cut ∙ over_is old words from fits

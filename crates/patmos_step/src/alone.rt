@@ -203,10 +203,10 @@ impl Body {
         matches!(self.status, Status::Running) && self.transfer.words == 0 && self.free == cycle
     }
 
-    // the offset of the next bundle, where no flow is due but a branch to a place in the function
+    /// The offset of the next bundle, where no flow is due but a branch to a place in the function.
     #[inline(always)]
     #[tactic(auto, using(crate::proofs::ByItself::lands_here, crate::proofs::ByItself::lands_later, crate::proofs::ByItself::lands_within))]
-    fn next_offset(&self) -> Option<u32>
+    pub fn next_offset(&self) -> Option<u32>
         ensures { IfSome result (λ offset. CanLand offset (plain_of self.now)) }
     {
         match self.flow {

@@ -22,7 +22,8 @@ line_after-inside line b Braces inside = rw inside refl
 line_after-inside line b Comment inside = rw inside refl
 
 -- a byte that ends its piece, one of a comment, and one of the piece
-pub scanned-end : (line b : ℕ) (at : Where) (bs : List ℕ) → is_end at b ≡ true → scanned line at (b ∷ bs) ≡ (line, []) ∷ scanned (line_after line b) Plain bs
+pub scanned-end : (line b : ℕ) (at : Where) (bs : List ℕ) → is_end at b ≡ true → scanned line at (b ∷ bs)
+    ≡ (line, []) ∷ scanned (line_after line b) Plain bs
 scanned-end line b at bs ends = rw ends refl
 
 scanned-comment : (line b : ℕ) (at : Where) (bs : List ℕ) → is_end at b ≡ false → is_comment (after_byte at b) ≡ true
@@ -45,31 +46,43 @@ pub record Reads (line : ℕ) (text : List ℕ) (at : Where) (end i : ℕ) : Typ
   pub within : end ≤ i
   pub all_kept : is_comment at ≡ false → end ≡ i
 
-pub piece_ends : (line : ℕ) (text : List ℕ) (at : Where) (end i : ℕ) → Reads line text at end i → i < length text → is_end at (get_or text i 0) ≡ true
-    → statements_of line text ≡ kept line (take end text) (statements_of (line_after line (get_or text i 0)) (drop (i + 1) text))
+pub piece_ends : (line : ℕ) (text : List ℕ) (at : Where) (end i : ℕ) → Reads line text at end i → i < length text
+    → is_end at (get_or text i 0) ≡ true
+    → statements_of line text ≡ kept line (take end text) (statements_of (line_after line (get_or text i 0))
+    (drop (i + 1) text))
 piece_ends line text at end i reads within ends =
     statements_scanned line text
-    ∙ ap not_blank (reads.whole ∙ ap (put_before (take end text)) (at_drop_more (scanned line at) text i 0 within ∙ scanned-end line (get_or text i 0) at (drop (i + 1) text) ends))
-    ∙ ap (λ t. kept line t (not_blank (scanned (line_after line (get_or text i 0)) Plain (drop (i + 1) text)))) (append-nil (take end text))
+    ∙ ap not_blank (reads.whole ∙ ap (put_before (take end text)) (at_drop_more (scanned line at) text i 0 within
+    ∙ scanned-end line (get_or text i 0) at (drop (i + 1) text) ends))
+    ∙ ap (λ t. kept line t (not_blank (scanned (line_after line (get_or text i 0)) Plain (drop (i + 1) text))))
+    (append-nil (take end text))
     ∙ ap (kept line (take end text)) (sym (statements_scanned (line_after line (get_or text i 0)) (drop (i + 1) text)))
 
-pub comment_goes_on : (line : ℕ) (text : List ℕ) (at : Where) (end i : ℕ) → Reads line text at end i → i < length text → is_end at (get_or text i 0) ≡ false
-    → is_comment (after_byte at (get_or text i 0)) ≡ true → Reads line text (after_byte at (get_or text i 0)) end (i + 1)
+pub comment_goes_on : (line : ℕ) (text : List ℕ) (at : Where) (end i : ℕ) → Reads line text at end i → i < length text
+    → is_end at (get_or text i 0) ≡ false
+    → is_comment (after_byte at (get_or text i 0)) ≡ true
+    → Reads line text (after_byte at (get_or text i 0)) end (i + 1)
 comment_goes_on line text at end i reads within goes_on comment = record {
-  whole = reads.whole ∙ ap (put_before (take end text)) (at_drop_more (scanned line at) text i 0 within ∙ scanned-comment line (get_or text i 0) at (drop (i + 1) text) goes_on comment);
+  whole = reads.whole ∙ ap (put_before (take end text)) (at_drop_more (scanned line at) text i 0 within
+      ∙ scanned-comment line (get_or text i 0) at (drop (i + 1) text) goes_on comment);
   within = omega arith;
   all_kept = λ text_again. cc;
 }
 
-pub piece_goes_on : (line : ℕ) (text : List ℕ) (at : Where) (end i : ℕ) → Reads line text at end i → i < length text → is_end at (get_or text i 0) ≡ false
-    → is_comment (after_byte at (get_or text i 0)) ≡ false → Reads line text (after_byte at (get_or text i 0)) (i + 1) (i + 1)
+pub piece_goes_on : (line : ℕ) (text : List ℕ) (at : Where) (end i : ℕ) → Reads line text at end i → i < length text
+    → is_end at (get_or text i 0) ≡ false
+    → is_comment (after_byte at (get_or text i 0)) ≡ false → Reads line text (after_byte at (get_or text i 0))
+    (i + 1) (i + 1)
 piece_goes_on line text at end i reads within goes_on in_text = record {
   whole =
       reads.whole
-      ∙ ap (put_before (take end text)) (at_drop_more (scanned line at) text i 0 within ∙ scanned-byte line (get_or text i 0) at (drop (i + 1) text) goes_on in_text)
-      ∙ put_before-put_before (take end text) (get_or text i 0 ∷ []) (scanned line (after_byte at (get_or text i 0)) (drop (i + 1) text))
+      ∙ ap (put_before (take end text)) (at_drop_more (scanned line at) text i 0 within
+      ∙ scanned-byte line (get_or text i 0) at (drop (i + 1) text) goes_on in_text)
+      ∙ put_before-put_before (take end text) (get_or text i 0 ∷ []) (scanned line (after_byte at (get_or text i 0))
+      (drop (i + 1) text))
       ∙ ap (λ prefix. put_before prefix (scanned line (after_byte at (get_or text i 0)) (drop (i + 1) text)))
-      (ap (λ n. take n text ++ get_or text i 0 ∷ []) (reads.all_kept (is_comment-after_byte at (get_or text i 0) in_text)) ∙ sym (take_more text i 0 within));
+      (ap (λ n. take n text ++ get_or text i 0 ∷ []) (reads.all_kept (is_comment-after_byte at (get_or text i 0)
+      in_text)) ∙ sym (take_more text i 0 within));
   within = omega arith;
   all_kept = λ _. refl;
 }

@@ -6,13 +6,16 @@ use Rattle.patmos_syntax.specs.Items.{Item, label, label_at, statement_of, items
 use Rattle.patmos_syntax.specs.Shown.{shown_item, shown_items}
 use Rattle.patmos_syntax.proofs.Labels.{label_first, no_label}
 
-shown_items-push : (old : List code.Item) (item : code.Item) → shown_items (old ++ item ∷ []) ≡ shown_items old ++ shown_item item ∷ []
+shown_items-push : (old : List code.Item) (item : code.Item) → shown_items (old ++ item ∷ []) ≡ shown_items old
+    ++ shown_item item ∷ []
 shown_items-push [] item = refl
 shown_items-push (x ∷ xs) item = ap (λ rest. shown_item x ∷ rest) (shown_items-push xs item)
 
-pub label_pushed : (old new : List code.Item) (item : code.Item) (all : List Item) (line : ℕ) (rest name behind : List ℕ) →
+pub label_pushed : (old new : List code.Item) (item : code.Item) (all : List Item) (line : ℕ)
+    (rest name behind : List ℕ) →
     new ≡ old ++ item ∷ [] → shown_item item ≡ label line name → label_at rest ≡ Some (name, behind) →
-    shown_items old ++ items_in line (length rest) rest ≡ all → shown_items new ++ items_in line (length behind) behind ≡ all
+    shown_items old ++ items_in line (length rest) rest ≡ all → shown_items new ++ items_in line (length behind) behind
+    ≡ all
 label_pushed old new item all line rest name behind pushed seen e before =
     rw (pushed, shown_items-push old item, seen, append_assoc, ← label_first line rest name behind e) before
 

@@ -16,9 +16,11 @@ place_after at b = cond (is_end at b) Plain (after_byte at b)
 abbrev pub scanned : ℕ → Where → List ℕ → List Piece
 scanned line at [] = (line, []) ∷ []
 scanned line at (b ∷ bs) = cond (is_end at b) ((line, []) ∷ scanned (line_after line b) (place_after at b) bs)
-    (cond (is_comment (after_byte at b)) (scanned (line_after line b) (place_after at b) bs) (put_before (b ∷ []) (scanned (line_after line b) (place_after at b) bs)))
+    (cond (is_comment (after_byte at b)) (scanned (line_after line b) (place_after at b) bs)
+    (put_before (b ∷ []) (scanned (line_after line b) (place_after at b) bs)))
 
-ends_where : (b : ℕ) (comment braces : Bool) → (b == 10 || (b == 59 && not (comment || braces))) ≡ is_end (cond comment Comment (cond braces Braces Plain)) b
+ends_where : (b : ℕ) (comment braces : Bool) → (b == 10 || (b == 59 && not (comment || braces)))
+    ≡ is_end (cond comment Comment (cond braces Braces Plain)) b
 ends_where b true braces = by (b == 10) (b == 59)
   where
     by : (x y : Bool) → (x || (y && false)) ≡ x
@@ -38,7 +40,8 @@ ends_where b false false = by (b == 10) (b == 59)
     by false true = refl
     by false false = refl
 
-comment_where : (b : ℕ) (comment braces : Bool) → (b == 35 || comment) ≡ is_comment (after_byte (cond comment Comment (cond braces Braces Plain)) b)
+comment_where : (b : ℕ) (comment braces : Bool) → (b == 35 || comment)
+    ≡ is_comment (after_byte (cond comment Comment (cond braces Braces Plain)) b)
 comment_where b true braces = by (b == 35)
   where
     by : (x : Bool) → (x || true) ≡ true
@@ -67,22 +70,26 @@ byte_where : (b : ℕ) (comment braces : Bool) → (b == 10) ≡ false
     ≡ place_after (cond comment Comment (cond braces Braces Plain)) b
 byte_where b true braces same_line = rw same_line (by (b == 35))
   where
-    by : (number : Bool) → cond (number || true) Comment (cond (cond (b == 123) true (cond (b == 125) false braces)) Braces Plain) ≡ Comment
+    by : (number : Bool) → cond (number || true) Comment (cond (cond (b == 123) true (cond (b == 125) false braces))
+        Braces Plain) ≡ Comment
     by true = refl
     by false = refl
 byte_where b false true same_line = rw same_line (by (b == 35) (b == 123) (b == 125) (other_byte b 123 125 refl))
   where
     by : (number opens closes : Bool) → (opens ≡ true → closes ≡ false)
-        → cond (number || false) Comment (cond (cond opens true (cond closes false true)) Braces Plain) ≡ cond number Comment (cond closes Plain Braces)
+        → cond (number || false) Comment (cond (cond opens true (cond closes false true)) Braces Plain)
+        ≡ cond number Comment (cond closes Plain Braces)
     by true opens closes other = refl
     by false true true other = absurd (true≢false (other refl))
     by false true false other = refl
     by false false true other = refl
     by false false false other = refl
-byte_where b false false same_line = rw same_line (by (b == 59) (b == 35) (b == 123) (b == 125) (other_byte b 59 35 refl) (other_byte b 59 123 refl))
+byte_where b false false same_line =
+    rw same_line (by (b == 59) (b == 35) (b == 123) (b == 125) (other_byte b 59 35 refl) (other_byte b 59 123 refl))
   where
     by : (ends number opens closes : Bool) → (ends ≡ true → number ≡ false) → (ends ≡ true → opens ≡ false)
-        → cond (number || false) Comment (cond (cond opens true (cond closes false false)) Braces Plain) ≡ cond ends Plain (cond number Comment (cond opens Braces Plain))
+        → cond (number || false) Comment (cond (cond opens true (cond closes false false)) Braces Plain)
+        ≡ cond ends Plain (cond number Comment (cond opens Braces Plain))
     by true true opens closes other another = absurd (true≢false (other refl))
     by true false true closes other another = absurd (true≢false (another refl))
     by true false false true other another = refl
@@ -101,7 +108,8 @@ newline_where Comment b newline = rw newline refl
 next_where : (b : ℕ) (before : List ℕ) → where_of (before_next b before) ≡ place_after (where_of before) b
 next_where b before = by (b == 10) refl
   where
-    by : (newline : Bool) → (b == 10) ≡ newline → where_of (cond newline [] (b ∷ before)) ≡ place_after (where_of before) b
+    by : (newline : Bool) → (b == 10) ≡ newline → where_of (cond newline [] (b ∷ before))
+        ≡ place_after (where_of before) b
     by true e = sym (newline_where (where_of before) b e)
     by false e = byte_where b (in_comment before) (in_braces before) e
 
@@ -110,8 +118,10 @@ scanned_pieces : (line : ℕ) (before text : List ℕ) → pieces_of line before
 scanned_pieces line before [] = refl
 scanned_pieces line before (b ∷ bs) =
     rw (ends_where b (in_comment before) (in_braces before), comment_where b (in_comment before) (in_braces before))
-    (ap (λ rest. cond (is_end (where_of before) b) ((line, []) ∷ rest) (cond (is_comment (after_byte (where_of before) b)) rest (put_before (b ∷ []) rest)))
-    (scanned_pieces (line_after line b) (before_next b before) bs ∙ ap (λ at. scanned (line_after line b) at bs) (next_where b before)))
+    (ap (λ rest. cond (is_end (where_of before) b) ((line, []) ∷ rest)
+    (cond (is_comment (after_byte (where_of before) b)) rest (put_before (b ∷ []) rest)))
+    (scanned_pieces (line_after line b) (before_next b before) bs ∙ ap (λ at. scanned (line_after line b) at bs)
+    (next_where b before)))
 
 pub statements_scanned : (line : ℕ) (text : List ℕ) → statements_of line text ≡ not_blank (scanned line Plain text)
 statements_scanned line text = ap not_blank (scanned_pieces line [] text)

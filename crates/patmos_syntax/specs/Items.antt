@@ -44,13 +44,13 @@ statement_of line text =
 
 -- the statements of a text of one line, of which at most n are labels: labels at its front, and then one
 -- that is none, if anything is left
-abbrev pub items_behind : ℕ → List ℕ → Option (List ℕ × List ℕ) → (List ℕ → List Item) → List Item
-items_behind line text (Some l) items = label line l.0 ∷ items l.1
-items_behind line text None items = if at_end text then [] else statement_of line text ∷ []
+abbrev pub items_after : ℕ → List ℕ → Option (List ℕ × List ℕ) → (List ℕ → List Item) → List Item
+items_after line text (Some l) items = label line l.0 ∷ items l.1
+items_after line text None items = if at_end text then [] else statement_of line text ∷ []
 
 abbrev pub items_in : ℕ → ℕ → List ℕ → List Item
 items_in line zero text = []
-items_in line (suc n) text = items_behind line text (label_at text) (items_in line n)
+items_in line (suc n) text = items_after line text (label_at text) (items_in line n)
 
 abbrev pub items_from : List Piece → List Item
 items_from [] = []

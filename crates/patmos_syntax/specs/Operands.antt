@@ -63,11 +63,11 @@ value_at writable text = named_at (take 5 special_names) text
 value_at (sign s) text = option_map (λ rest. (s, rest)) (sign_at s text)
 
 -- the numbers of these pieces, after those before them, and what stands after the last piece
-abbrev pub read_behind : List ℕ → List Token → List ℕ → Option (List ℕ × List ℕ)
-read_behind before [] text = Some (before, text)
-read_behind before (sign s ∷ ts) text = sign_at s text >>= λ rest. read_behind before ts rest
-read_behind before (t ∷ ts) text = value_at t text >>= λ v. read_behind (before ++ v.0 ∷ []) ts v.1
+abbrev pub read_after : List ℕ → List Token → List ℕ → Option (List ℕ × List ℕ)
+read_after before [] text = Some (before, text)
+read_after before (sign s ∷ ts) text = sign_at s text >>= λ rest. read_after before ts rest
+read_after before (t ∷ ts) text = value_at t text >>= λ v. read_after (before ++ v.0 ∷ []) ts v.1
 
 -- the numbers of these pieces, after which nothing is left
 abbrev pub read : List Token → List ℕ → Option (List ℕ)
-read ts text = read_behind [] ts text >>= λ r. if at_end r.1 then Some r.0 else None
+read ts text = read_after [] ts text >>= λ r. if at_end r.1 then Some r.0 else None

@@ -59,13 +59,13 @@ base_of Decimal = 10
 base_of Hexadecimal = 16
 
 -- the number that these digits write after digits whose number is `before`
-abbrev pub value_behind : Radix → ℕ → List ℕ → Option ℕ
-value_behind radix before [] = Some before
-value_behind radix before (b ∷ bs) = digit_of radix b >>= λ d. value_behind radix (before * base_of radix + d) bs
+abbrev pub value_after : Radix → ℕ → List ℕ → Option ℕ
+value_after radix before [] = Some before
+value_after radix before (b ∷ bs) = digit_of radix b >>= λ d. value_after radix (before * base_of radix + d) bs
 
 abbrev pub value_of : Radix → List ℕ → Option ℕ
 value_of radix [] = None
-value_of radix (b ∷ bs) = value_behind radix 0 (b ∷ bs)
+value_of radix (b ∷ bs) = value_after radix 0 (b ∷ bs)
 
 -- the number that the word writes: decimal digits, or `0x` and hexadecimal ones
 abbrev pub written_number : List ℕ → Option ℕ

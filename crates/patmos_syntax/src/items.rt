@@ -41,7 +41,7 @@ impl Item {
 }
 
 // a label at the front, and what stands after its colon
-#[tactic(auto, using(crate::proofs::Labels::behind_shorter))]
+#[tactic(auto, using(crate::proofs::Labels::after_shorter))]
 fn label_at(text: &[u8]) -> Option<(&[u8], &[u8])>
     ensures value { option_map (λ x. (x.0.now, x.1.now)) result ≡ specs.label_at text.now }
     ensures shorter { IfSome result (λ x. length x.1.now < length text.now) }

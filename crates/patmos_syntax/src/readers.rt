@@ -121,7 +121,7 @@ impl Radix {
 
     #[tactic(auto, using(crate::proofs::Numbers::next_digit, crate::proofs::Numbers::no_digit))]
     fn sum_of(self, digits: &[u8]) -> Option<u64>
-        ensures { result ≡ option_map (min (2 ^ 32)) (specs.value_behind self 0 digits.now) }
+        ensures { result ≡ option_map (min (2 ^ 32)) (specs.value_after self 0 digits.now) }
     {
         let mut value: u64 = 0;
         for byte in digits {

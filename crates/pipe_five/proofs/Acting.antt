@@ -19,12 +19,15 @@ use Rattle.pipe_five.specs.Lone.{LandedAs, IsNextBundle, LeavesStatus, was_done}
 use Rattle.pipe_five.proofs.Told.{none_planned, none_waiting, none_passed, one_passed, fetched_there, passed_within}
 
 -- none is done
-tells_none : (x : Core) (l : Lone) (later : ℕ) (at : LandedAs l x) → later ≡ suc l.cycle → done_by l.cycle (core_of l.body at.seen) ≡ [] → done_below x later ≡ done_below x l.cycle
+tells_none : (x : Core) (l : Lone) (later : ℕ) (at : LandedAs l x) → later ≡ suc l.cycle
+    → done_by l.cycle (core_of l.body at.seen) ≡ [] → done_below x later ≡ done_below x l.cycle
 tells_none x l later at far none =
-    ap (done_below x) far ∙ ap (λ c. done_by l.cycle c ++ done_below x l.cycle) at.core ∙ ap (λ ds. ds ++ done_below x l.cycle) none
+    ap (done_below x) far ∙ ap (λ c. done_by l.cycle c ++ done_below x l.cycle) at.core
+    ∙ ap (λ ds. ds ++ done_below x l.cycle) none
 
 -- one is done, and comes into its stage
-tells_one : (x : Core) (l : Lone) (plan : Plan) (fetched : Fetched) (place : ℕ) (found : Registers) (before after : Latches) (later : ℕ) → LandedAs l x
+tells_one : (x : Core) (l : Lone) (plan : Plan) (fetched : Fetched) (place : ℕ) (found : Registers)
+    (before after : Latches) (later : ℕ) → LandedAs l x
     → plan ≡ planned l.cycle (plain_of l.body) → plan ≡ Does fetched → passes fetched (plain_of l.body) ≡ true
     → (l.body.offset < size_at l.body.image l.body.base → place ≡ l.body.base + l.body.offset) → found ≡ l.body.regs
     → after ≡ shifted (Some place) found before → later ≡ suc l.cycle → IsNextBundle x l.cycle later before after
@@ -32,7 +35,9 @@ tells_one x l plan fetched place found before after later at is does passed ther
     let z : Core = core_of l.body at.seen in
     let bundle : Done = record { base = l.body.base; offset = l.body.offset; cycle = l.cycle } in
     let inside : l.body.offset < size_at l.body.image l.body.base =
-    passed_within (plain_of l.body) (ap (λ f. passes f (plain_of l.body)) (sym (fetched_there l.cycle (plain_of l.body) plan fetched is does)) ∙ passed) in
+    passed_within (plain_of l.body)
+    (ap (λ f. passes f (plain_of l.body)) (sym (fetched_there l.cycle (plain_of l.body) plan fetched is does))
+    ∙ passed) in
     let same : found ≡ _ = registers ∙ sym (ap (λ (c : Core). c.plain.regs) at.core) in
     record {
       bundle = bundle;
@@ -48,24 +53,35 @@ done_runs fetched Running is = refl
 done_runs fetched (Trapped trap at) is = absurd (let bad : false ≡ true = is in cc)
 
 -- whether one was done, by the plan and the core's status after the cycle
-pub acted_none : (x : Core) (l : Lone) (plan : Plan) (after : Plain) (later : ℕ) → LandedAs l x → plan ≡ planned l.cycle (plain_of l.body)
-    → LeavesStatus plan (plain_of l.body) after → was_done plan after.status ≡ false → later ≡ suc l.cycle → done_below x later ≡ done_below x l.cycle
-acted_none x l Nothing after later at is leaves none far = tells_none x l later at far (none_planned l.cycle (core_of l.body at.seen) Nothing is refl)
-acted_none x l Waits after later at is leaves none far = tells_none x l later at far (none_waiting l.cycle (core_of l.body at.seen) Waits is refl)
+pub acted_none : (x : Core) (l : Lone) (plan : Plan) (after : Plain) (later : ℕ) → LandedAs l x → plan
+    ≡ planned l.cycle (plain_of l.body)
+    → LeavesStatus plan (plain_of l.body) after → was_done plan after.status ≡ false → later ≡ suc l.cycle
+    → done_below x later ≡ done_below x l.cycle
+acted_none x l Nothing after later at is leaves none far =
+    tells_none x l later at far (none_planned l.cycle (core_of l.body at.seen) Nothing is refl)
+acted_none x l Waits after later at is leaves none far =
+    tells_none x l later at far (none_waiting l.cycle (core_of l.body at.seen) Waits is refl)
 acted_none x l (Does fetched) after later at is leaves none far = by (passes fetched (plain_of l.body)) refl
   where
     by : (b : Bool) → passes fetched (plain_of l.body) ≡ b → done_below x later ≡ done_below x l.cycle
     by true passed = absurd (let bad : true ≡ false = sym (ap (was_done (Does fetched)) (leaves.0 passed)) ∙ none in cc)
-    by false failed = tells_none x l later at far (none_passed l.cycle (core_of l.body at.seen) (Does fetched) fetched is refl failed)
+    by false failed = tells_none x l later at far (none_passed l.cycle (core_of l.body at.seen) (Does fetched) fetched
+        is refl failed)
 
-pub acted_one : (x : Core) (l : Lone) (plan : Plan) (after : Plain) (place : ℕ) (found : Registers) (stages stages' : Latches) (later : ℕ) → LandedAs l x
-    → plan ≡ planned l.cycle (plain_of l.body) → LeavesStatus plan (plain_of l.body) after → was_done plan after.status ≡ true
+pub acted_one : (x : Core) (l : Lone) (plan : Plan) (after : Plain) (place : ℕ) (found : Registers)
+    (stages stages' : Latches) (later : ℕ) → LandedAs l x
+    → plan ≡ planned l.cycle (plain_of l.body) → LeavesStatus plan (plain_of l.body) after → was_done plan after.status
+    ≡ true
     → (l.body.offset < size_at l.body.image l.body.base → place ≡ l.body.base + l.body.offset) → found ≡ l.body.regs
     → stages' ≡ shifted (Some place) found stages → later ≡ suc l.cycle → IsNextBundle x l.cycle later stages stages'
-acted_one x l Nothing after place found stages stages' later at is leaves done there registers held far = absurd (let bad : false ≡ true = done in cc)
-acted_one x l Waits after place found stages stages' later at is leaves done there registers held far = absurd (let bad : false ≡ true = done in cc)
-acted_one x l (Does fetched) after place found stages stages' later at is leaves done there registers held far = by (passes fetched (plain_of l.body)) refl
+acted_one x l Nothing after place found stages stages' later at is leaves done there registers held far =
+    absurd (let bad : false ≡ true = done in cc)
+acted_one x l Waits after place found stages stages' later at is leaves done there registers held far =
+    absurd (let bad : false ≡ true = done in cc)
+acted_one x l (Does fetched) after place found stages stages' later at is leaves done there registers held far =
+    by (passes fetched (plain_of l.body)) refl
   where
     by : (b : Bool) → passes fetched (plain_of l.body) ≡ b → IsNextBundle x l.cycle later stages stages'
-    by true passed = tells_one x l (Does fetched) fetched place found stages stages' later at is refl passed there registers held far
+    by true passed = tells_one x l (Does fetched) fetched place found stages stages' later at is refl passed there
+        registers held far
     by false failed = absurd (leaves.1 failed (done_runs fetched after.status done))

@@ -43,11 +43,14 @@ pub record IsRun (x : Core) (later : ℕ) (b : Body) (words : List ℕ) : Type 0
 
 -- ---- a flow that is due takes effect
 
-pub landed_as : (x : Core) (l : Lone) (b : Body) (runs : RunsAs l x) → IsAt b (settled_at l.cycle (core_of l.body runs.seen))
-    → (seen : History) × Shows b seen × (landed l.cycle (core_before x l.cycle) ≡ core_of b seen) × (is_start b.image b.base ≡ true)
+pub landed_as : (x : Core) (l : Lone) (b : Body) (runs : RunsAs l x)
+    → IsAt b (settled_at l.cycle (core_of l.body runs.seen))
+    → (seen : History) × Shows b seen × (landed l.cycle (core_before x l.cycle) ≡ core_of b seen)
+    × (is_start b.image b.base ≡ true)
 landed_as x l b runs at =
     let same : landed l.cycle (core_before x l.cycle) ≡ core_of b at.seen = ap (landed l.cycle) runs.core ∙ at.same in
-    let there : Placed (landed l.cycle (core_before x l.cycle)) = (landed_goes l.cycle (core_before x l.cycle)).0 (subst Placed (sym runs.core) runs.placed) in
+    let there : Placed (landed l.cycle (core_before x l.cycle)) =
+    (landed_goes l.cycle (core_before x l.cycle)).0 (subst Placed (sym runs.core) runs.placed) in
     (at.seen, at.shows, same, subst Placed same there)
 
 -- ---- what is planned is carried out
@@ -55,11 +58,15 @@ landed_as x l b runs at =
 registers_same : (x : Interface) → HasRegisters x x
 registers_same x = record { cores = refl; core = refl; source = λ d. refl; target = λ d. refl }
 
-pub carried : (x : Core) (l : Lone) (next : Body) (asked : Ask) (plan : Plan) (values : List ℕ) (pending_store : Option PendingStore) (stored : List ℕ) (later : ℕ)
-    → LandedAs l x → plan ≡ planned l.cycle (plain_of l.body) → (is_running (plain_of l.body) ≡ true → IsSettled l.cycle (plain_of l.body))
-    → ((h : History) (i : Interface) → Shows l.body h → HasRegisters i l.body.ni.interface → FollowsAsk asked (carried_out plan l.cycle (with_interface (core_of l.body h) i)))
+pub carried : (x : Core) (l : Lone) (next : Body) (asked : Ask) (plan : Plan) (values : List ℕ)
+    (pending_store : Option PendingStore) (stored : List ℕ) (later : ℕ)
+    → LandedAs l x → plan ≡ planned l.cycle (plain_of l.body) → (is_running (plain_of l.body) ≡ true
+    → IsSettled l.cycle (plain_of l.body))
+    → ((h : History) (i : Interface) → Shows l.body h → HasRegisters i l.body.ni.interface
+    → FollowsAsk asked (carried_out plan l.cycle (with_interface (core_of l.body h) i)))
     → Hears asked (slice_index l.words.items) values
-    → ((s : ℕ) (h : History) → Shows l.body h → IsActed next pending_store (fed s (carried_out plan l.cycle (core_of l.body h)) values).core)
+    → ((s : ℕ) (h : History) → Shows l.body h
+    → IsActed next pending_store (fed s (carried_out plan l.cycle (core_of l.body h)) values).core)
     → ((w : ℕ) → slice_index stored w ≡ completed pending_store (stored_by asked (slice_index l.words.items)) w)
     → later ≡ suc l.cycle → IsRun x later next stored
 carried x l next asked plan values pending_store stored later at is settles follows hears acts completes far =
@@ -71,24 +78,33 @@ carried x l next asked plan values pending_store stored later at is settles foll
     let words : ℕ → ℕ = slice_index l.words.items in
     let goes : Goes y (landed t y) = landed_goes t y in
     let same : y.plain.interface ≡ z.plain.interface = sym goes.1 ∙ ap (λ (c : Core). c.plain.interface) at.core in
-    let first : turn 0 t y ≡ done y = first_quiet t y (subst (λ i. delivery t i ≡ done i) (sym same) (never_turns l.body.ni l.can.never t 0 (omega arith))) in
-    let owns : own t y ≡ p = sym (landed_first y t).act ∙ ap (own t) at.core ∙ own_is_planned t z settles ∙ ap (λ q. carried_out q t z) (sym is) in
-    let second : turn 1 t y ≡ and_then p settled = second_quiet t y (subst (λ i. injection t i ≡ done i) (sym same) (never_turns l.body.ni l.can.never t 1 (omega arith))) ∙ ap (λ q. and_then q settled) owns in
+    let first : turn 0 t y ≡ done y = first_quiet t y (subst (λ i. delivery t i ≡ done i) (sym same)
+    (never_turns l.body.ni l.can.never t 0 (omega arith))) in
+    let owns : own t y ≡ p = sym (landed_first y t).act ∙ ap (own t) at.core ∙ own_is_planned t z settles
+    ∙ ap (λ q. carried_out q t z) (sym is) in
+    let second : turn 1 t y ≡ and_then p settled = second_quiet t y (subst (λ i. injection t i ≡ done i) (sym same)
+    (never_turns l.body.ni l.can.never t 1 (omega arith))) ∙ ap (λ q. and_then q settled) owns in
     let board : words_before x t ≡ words = λ i w. at.words w i in
     let act : IsActed next pending_store (fed s p values).core = acts s at.seen at.shows in
-    let answered : IsAnswered s p values words (stored_by asked words) = answered_so s asked p values words (follows at.seen z.plain.interface at.shows (registers_same z.plain.interface)) hears in
+    let answered : IsAnswered s p values words (stored_by asked words) =
+    answered_so s asked p values words (follows at.seen z.plain.interface at.shows
+    (registers_same z.plain.interface)) hears in
     subst (λ u. IsRun x u next stored) (sym far) (record {
       seen = act.at.seen;
       shows = act.at.shows;
-      core = next_core x t y (and_then p settled) first second ∙ ap (λ f. (played s (and_then p settled) f).core) board ∙ answered.core ∙ act.at.same;
+      core = next_core x t y (and_then p settled) first second ∙ ap (λ f. (played s (and_then p settled) f).core) board
+          ∙ answered.core ∙ act.at.same;
       board = λ w. (λ i. next_words x t y (and_then p settled) first second i w)
           ∙ ap (λ f. after (played s (and_then p settled) f).ops f w) board
           ∙ (λ i. answered.board i w) ∙ (λ i. completed (act.leaves i) (stored_by asked words) w) ∙ sym (completes w);
-      placed = subst Placed act.at.same (fed_leaves (λ (a : Acted). is_start a.core.plain.site.image a.core.plain.base ≡ true) s p values (keeps_start plan t z at.placed));
+      placed = subst Placed act.at.same (fed_leaves (λ (a : Acted). is_start a.core.plain.site.image a.core.plain.base
+          ≡ true) s p values (keeps_start plan t z at.placed));
     })
 
-pub status_left : (x : Core) (l : Lone) (next : Body) (plan : Plan) (values : List ℕ) (pending_store : Option PendingStore) → LandedAs l x → plan ≡ planned l.cycle (plain_of l.body)
-    → ((s : ℕ) (h : History) → Shows l.body h → IsActed next pending_store (fed s (carried_out plan l.cycle (core_of l.body h)) values).core)
+pub status_left : (x : Core) (l : Lone) (next : Body) (plan : Plan) (values : List ℕ)
+    (pending_store : Option PendingStore) → LandedAs l x → plan ≡ planned l.cycle (plain_of l.body)
+    → ((s : ℕ) (h : History) → Shows l.body h
+    → IsActed next pending_store (fed s (carried_out plan l.cycle (core_of l.body h)) values).core)
     → LeavesStatus plan (plain_of l.body) (plain_of next)
 status_left x l next Nothing values pending_store at is acts = tt
 status_left x l next Waits values pending_store at is acts = tt
@@ -96,7 +112,10 @@ status_left x l next (Does fetched) values pending_store at is acts =
     let z : Core = core_of l.body at.seen in
     let p : Prog Acted = carried_out (Does fetched) l.cycle z in
     let act : IsActed next pending_store (fed 0 p values).core = acts 0 at.seen at.shows in
-    let runs : z.plain.status ≡ Running = running_status z.plain (does_run l.cycle z.plain (Does fetched) fetched is refl) in (
-      λ passed. sym (ap (λ (c : Core). c.plain.status) act.at.same) ∙ fed_leaves (λ (a : Acted). a.core.plain.status ≡ Running) 0 p values (runs_on fetched l.cycle z runs passed),
-      λ failed. subst (λ (c : Core). c.plain.status ≢ Running) act.at.same (fed_leaves (λ (a : Acted). a.core.plain.status ≢ Running) 0 p values (stops_at fetched l.cycle z failed)),
+    let runs : z.plain.status ≡ Running =
+    running_status z.plain (does_run l.cycle z.plain (Does fetched) fetched is refl) in (
+      λ passed. sym (ap (λ (c : Core). c.plain.status) act.at.same) ∙ fed_leaves (λ (a : Acted). a.core.plain.status
+          ≡ Running) 0 p values (runs_on fetched l.cycle z runs passed),
+      λ failed. subst (λ (c : Core). c.plain.status ≢ Running) act.at.same
+          (fed_leaves (λ (a : Acted). a.core.plain.status ≢ Running) 0 p values (stops_at fetched l.cycle z failed)),
     )

@@ -15,15 +15,18 @@ use Rattle.pipe_five.specs.Soundness.{NeverActs}
 use Rattle.pipe_five.specs.Steps.{core_before, words_before, done_below}
 
 -- an interface that never acts does nothing in either phase
-pub never_turns : (s : Standing) → NeverActs s → (cycle phase : ℕ) → phase ≤ 1 → turns phase cycle s.interface ≡ done s.interface
-never_turns s never cycle phase few = quiet_for_ever s.interface 0 (2 * cycle + phase + 1) never cycle phase few (omega arith) (omega arith)
+pub never_turns : (s : Standing) → NeverActs s → (cycle phase : ℕ) → phase ≤ 1 → turns phase cycle s.interface
+    ≡ done s.interface
+never_turns s never cycle phase few =
+    quiet_for_ever s.interface 0 (2 * cycle + phase + 1) never cycle phase few (omega arith) (omega arith)
 
 -- nothing is delivered
 pub first_quiet : (t : ℕ) (y : Core) → delivery t y.plain.interface ≡ done y.plain.interface → turn 0 t y ≡ done y
 first_quiet t y none = ap (λ p. and_then p (λ i. done (with_interface y i))) none
 
 -- nothing is injected
-pub second_quiet : (t : ℕ) (y : Core) → injection t y.plain.interface ≡ done y.plain.interface → turn 1 t y ≡ and_then (own t y) settled
+pub second_quiet : (t : ℕ) (y : Core) → injection t y.plain.interface ≡ done y.plain.interface → turn 1 t y
+    ≡ and_then (own t y) settled
 second_quiet t y none = ap (λ p. and_then (and_then p (λ i. own t (with_interface y i))) settled) none
 
 pub at_rest : (t : ℕ) (y : Core) → own t y ≡ now y → and_then (own t y) settled ≡ done y
@@ -33,13 +36,15 @@ at_rest t y rests = ap (λ p. and_then p settled) rests
 pub next_core : (x : Core) (t : ℕ) (y : Core) (p : Prog Core) → turn 0 t (core_before x t) ≡ done y → turn 1 t y ≡ p
     → core_before x (suc t) ≡ (played (stamp 1 0 t 1) p (words_before x t)).core
 next_core x t y p first second =
-    ap (λ q. (played (stamp 1 0 t 1) (turn 1 t (played (stamp 1 0 t 0) q (words_before x t)).core) (after (played (stamp 1 0 t 0) q (words_before x t)).ops (words_before x t))).core) first
+    ap (λ q. (played (stamp 1 0 t 1) (turn 1 t (played (stamp 1 0 t 0) q (words_before x t)).core)
+    (after (played (stamp 1 0 t 0) q (words_before x t)).ops (words_before x t))).core) first
     ∙ ap (λ q. (played (stamp 1 0 t 1) q (words_before x t)).core) second
 
 pub next_words : (x : Core) (t : ℕ) (y : Core) (p : Prog Core) → turn 0 t (core_before x t) ≡ done y → turn 1 t y ≡ p
     → words_before x (suc t) ≡ after (played (stamp 1 0 t 1) p (words_before x t)).ops (words_before x t)
 next_words x t y p first second =
-    ap (λ q. after (played (stamp 1 0 t 1) (turn 1 t (played (stamp 1 0 t 0) q (words_before x t)).core) (after (played (stamp 1 0 t 0) q (words_before x t)).ops (words_before x t))).ops
+    ap (λ q. after (played (stamp 1 0 t 1) (turn 1 t (played (stamp 1 0 t 0) q (words_before x t)).core)
+    (after (played (stamp 1 0 t 0) q (words_before x t)).ops (words_before x t))).ops
     (after (played (stamp 1 0 t 0) q (words_before x t)).ops (words_before x t))) first
     ∙ ap (λ q. after (played (stamp 1 0 t 1) q (words_before x t)).ops (words_before x t)) second
 
@@ -64,7 +69,8 @@ pub later_sum : (cycles t : ℕ) → later_by cycles t ≡ cycles + t
 later_sum zero t = omega arith
 later_sum (suc cycles) t = let before : later_by cycles t ≡ cycles + t = later_sum cycles t in omega (arith, before)
 
-pub slept : (x y : Core) (t cycles : ℕ) → core_before x t ≡ y → ((u : ℕ) → t ≤ u → u < cycles + t → IsQuietIn u y) → IsAsBefore x y t (later_by cycles t)
+pub slept : (x y : Core) (t cycles : ℕ) → core_before x t ≡ y → ((u : ℕ) → t ≤ u → u < cycles + t → IsQuietIn u y)
+    → IsAsBefore x y t (later_by cycles t)
 slept x y t zero is quiet = record { core = is; words = λ w. refl; bundles = refl }
 slept x y t (suc cycles) is quiet =
     let u : ℕ = later_by cycles t in
@@ -75,5 +81,6 @@ slept x y t (suc cycles) is quiet =
     record {
       core = next_core x u y (done y) first here.second;
       words = λ w. (λ i. next_words x u y (done y) first here.second i w) ∙ before.words w;
-      bundles = ap (λ c. done_in u c ++ done_below x u) before.core ∙ ap (λ l. l ++ done_below x u) here.none ∙ before.bundles;
+      bundles = ap (λ c. done_in u c ++ done_below x u) before.core ∙ ap (λ l. l ++ done_below x u) here.none
+          ∙ before.bundles;
     }

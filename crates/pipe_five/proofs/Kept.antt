@@ -63,34 +63,42 @@ module _ (Q : Site → ℕ → Status → Type 0) where
   keeps_slot = acts_slot Any Any At gives_at (steps_of_place Q)
 
   -- a bundle that passes its checks, or is stopped by one
-  keeps_done : (fetched : Fetched) (cycle : ℕ) (c : Core) → ((f : Trap) → passes fetched c.plain ≡ false → At (with_plain (stopped f cycle) c)) → (passes fetched c.plain ≡ true → At c)
+  keeps_done : (fetched : Fetched) (cycle : ℕ) (c : Core) → ((f : Trap) → passes fetched c.plain ≡ false
+      → At (with_plain (stopped f cycle) c)) → (passes fetched c.plain ≡ true → At c)
       → Keeps Any Any Stays (done_as fetched cycle c)
   keeps_done Outside cycle c stops goes = (stops trap.Flow refl, tt)
   keeps_done NoBundle cycle c stops goes = (stops trap.Decode refl, tt)
   keeps_done (Found b words) cycle c stops goes = by (fault_of c.plain (effect_of b c.plain.regs)) refl
     where
-      by : (fault : Option Trap) → fault_of c.plain (effect_of b c.plain.regs) ≡ fault → Keeps Any Any Stays (elim fault as (λ _. Prog Acted) [
-        | None ↦ answered (effect_of b c.plain.regs) cycle (with_plain (advanced words b) c)
-        | Some f ↦ now (with_plain (stopped f cycle) c)
-      ])
-      by None none = let h = goes (ap is_none none) in acts_found Any Any At gives_at (steps_of_place Q) b words cycle c h h none
+      by : (fault : Option Trap) → fault_of c.plain (effect_of b c.plain.regs) ≡ fault
+          → Keeps Any Any Stays (elim fault as (λ _. Prog Acted) [
+            | None ↦ answered (effect_of b c.plain.regs) cycle (with_plain (advanced words b) c)
+            | Some f ↦ now (with_plain (stopped f cycle) c)
+          ])
+      by None none =
+          let h = goes (ap is_none none) in acts_found Any Any At gives_at (steps_of_place Q) b words cycle c h h none
       by (Some f) fails = (stops f (ap is_none fails), tt)
 
   -- what was fetched, and then the words of a slot
-  keeps_both : (fetched : Fetched) (cycle : ℕ) (c : Core) → ((f : Trap) → passes fetched c.plain ≡ false → At (with_plain (stopped f cycle) c)) → (passes fetched c.plain ≡ true → At c)
+  keeps_both : (fetched : Fetched) (cycle : ℕ) (c : Core) → ((f : Trap) → passes fetched c.plain ≡ false
+      → At (with_plain (stopped f cycle) c)) → (passes fetched c.plain ≡ true → At c)
       → Leaves Remains (and_then (done_as fetched cycle c) (slot_step cycle))
   keeps_both fetched cycle c stops goes =
       leaves_kept Stays Remains (λ a h. h.0) (and_then (done_as fetched cycle c) (slot_step cycle))
-      (keeps_then Any Any Stays Stays (slot_step cycle) (keeps_slot cycle) (done_as fetched cycle c) (keeps_done fetched cycle c stops goes))
+      (keeps_then Any Any Stays Stays (slot_step cycle) (keeps_slot cycle) (done_as fetched cycle c)
+      (keeps_done fetched cycle c stops goes))
 
 -- a function starts where the core's does
 abbrev pub Starts : Site → ℕ → Status → Type 0
 Starts site base status = is_start site.image base ≡ true
 
-pub keeps_start : (plan : Plan) (cycle : ℕ) (c : Core) → is_start c.plain.site.image c.plain.base ≡ true → Leaves (λ a. is_start a.core.plain.site.image a.core.plain.base ≡ true) (carried_out plan cycle c)
+pub keeps_start : (plan : Plan) (cycle : ℕ) (c : Core) → is_start c.plain.site.image c.plain.base ≡ true
+    → Leaves (λ a. is_start a.core.plain.site.image a.core.plain.base ≡ true) (carried_out plan cycle c)
 keeps_start Nothing cycle c h = h
 keeps_start Waits cycle c h =
-    leaves_kept (Stays Starts) (Remains Starts) (λ a k. k.0) (slot_step cycle (record { core = c; pending_store = None })) (keeps_slot Starts cycle (record { core = c; pending_store = None }) (h, tt))
+    leaves_kept (Stays Starts) (Remains Starts) (λ a k. k.0)
+    (slot_step cycle (record { core = c; pending_store = None }))
+    (keeps_slot Starts cycle (record { core = c; pending_store = None }) (h, tt))
 keeps_start (Does fetched) cycle c h = keeps_both Starts fetched cycle c (λ f is. h) (λ is. h)
 
 -- a core that runs goes on where what was fetched passes its checks, and stops where it does not
@@ -100,11 +108,15 @@ Runs site base status = status ≡ Running
 abbrev Stops : Site → ℕ → Status → Type 0
 Stops site base status = status ≢ Running
 
-pub runs_on : (fetched : Fetched) (cycle : ℕ) (c : Core) → c.plain.status ≡ Running → passes fetched c.plain ≡ true → Leaves (λ a. a.core.plain.status ≡ Running) (carried_out (Does fetched) cycle c)
-runs_on fetched cycle c runs passed = keeps_both Runs fetched cycle c (λ f is. absurd (let bad : true ≡ false = sym passed ∙ is in cc)) (λ is. runs)
+pub runs_on : (fetched : Fetched) (cycle : ℕ) (c : Core) → c.plain.status ≡ Running → passes fetched c.plain ≡ true
+    → Leaves (λ a. a.core.plain.status ≡ Running) (carried_out (Does fetched) cycle c)
+runs_on fetched cycle c runs passed =
+    keeps_both Runs fetched cycle c (λ f is. absurd (let bad : true ≡ false = sym passed ∙ is in cc)) (λ is. runs)
 
-pub stops_at : (fetched : Fetched) (cycle : ℕ) (c : Core) → passes fetched c.plain ≡ false → Leaves (λ a. a.core.plain.status ≢ Running) (carried_out (Does fetched) cycle c)
-stops_at fetched cycle c failed = keeps_both Stops fetched cycle c (λ f is. trapped f) (λ is. absurd (let bad : true ≡ false = sym is ∙ failed in cc))
+pub stops_at : (fetched : Fetched) (cycle : ℕ) (c : Core) → passes fetched c.plain ≡ false
+    → Leaves (λ a. a.core.plain.status ≢ Running) (carried_out (Does fetched) cycle c)
+stops_at fetched cycle c failed = keeps_both Stops fetched cycle c (λ f is. trapped f)
+    (λ is. absurd (let bad : true ≡ false = sym is ∙ failed in cc))
   where
     trapped : (f : Trap) → Trapped f cycle ≢ Running
     trapped f e = cc

@@ -21,15 +21,19 @@ Goes c d = (Placed c → Placed d) × (d.plain.interface ≡ c.plain.interface)
 
 gone_placed : (goal : Goal) (c : Core) → is_placed goal c.plain ≡ true → Goes c (gone goal c)
 gone_placed (Within offset) c is = (λ h. h, refl)
-gone_placed (Call target) c is = (λ h. (and_parts (is_start c.plain.site.image target) (nat_lt 0 (size_at c.plain.site.image target)) is).0, refl)
-gone_placed (Fill target) c is = (λ h. (and_parts (is_start c.plain.site.image target) (nat_lt 0 (size_at c.plain.site.image target)) is).0, refl)
-gone_placed (Return base offset) c is = (λ h. (and_parts (is_start c.plain.site.image base) (nat_lt offset (size_at c.plain.site.image base)) is).0, refl)
+gone_placed (Call target) c is =
+    (λ h. (and_parts (is_start c.plain.site.image target) (nat_lt 0 (size_at c.plain.site.image target)) is).0, refl)
+gone_placed (Fill target) c is =
+    (λ h. (and_parts (is_start c.plain.site.image target) (nat_lt 0 (size_at c.plain.site.image target)) is).0, refl)
+gone_placed (Return base offset) c is =
+    (λ h. (and_parts (is_start c.plain.site.image base) (nat_lt offset (size_at c.plain.site.image base)) is).0, refl)
 
 pub landed_goes : (u : ℕ) (c : Core) → Goes c (landed u c)
 unfolding flowed
 landed_goes u c = by_running (is_running c.plain)
   where
-    by_place : (goal : Goal) (b : Bool) → is_placed goal c.plain ≡ b → Goes c (elim b as (λ _. Core) [ true ↦ gone goal c | false ↦ with_plain (stopped trap.Flow u) c ])
+    by_place : (goal : Goal) (b : Bool) → is_placed goal c.plain ≡ b
+        → Goes c (elim b as (λ _. Core) [ true ↦ gone goal c | false ↦ with_plain (stopped trap.Flow u) c ])
     by_place goal true is = gone_placed goal c is
     by_place goal false is = (λ h. h, refl)
 
@@ -37,12 +41,21 @@ landed_goes u c = by_running (is_running c.plain)
     by_slots f true = by_place f.goal (is_placed f.goal c.plain) refl
     by_slots f false = (λ h. h, refl)
 
-    by_flow : (flow : Option Flow) → Goes c (elim flow as (λ _. Core) [ None ↦ c | Some f ↦ elim (f.slots == 0) as (λ _. Core) [ true ↦ taken u f.goal c | false ↦ c ] ])
+    by_flow : (flow : Option Flow)
+        → Goes c (elim flow as (λ _. Core) [
+          | None ↦ c
+          | Some f ↦ elim (f.slots == 0) as (λ _. Core)
+              [ true ↦ taken u f.goal c | false ↦ c ]
+        ])
     by_flow None = (λ h. h, refl)
     by_flow (Some f) = by_slots f (f.slots == 0)
 
     by_free : (b : Bool) → Goes c (elim b as (λ _. Core) [
-      | true ↦ elim c.plain.flow as (λ _. Core) [ None ↦ c | Some f ↦ elim (f.slots == 0) as (λ _. Core) [ true ↦ taken u f.goal c | false ↦ c ] ]
+      | true ↦ elim c.plain.flow as (λ _. Core) [
+        | None ↦ c
+        | Some f ↦ elim (f.slots == 0) as (λ _. Core)
+            [ true ↦ taken u f.goal c | false ↦ c ]
+      ]
       | false ↦ c
     ])
     by_free true = by_flow c.plain.flow

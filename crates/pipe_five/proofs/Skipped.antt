@@ -13,16 +13,20 @@ quiet_in : (l : Lone) (y : Core) (u : ℕ) → y.plain ≡ plain_of l.body → S
 quiet_in l y u same sleeps =
     let here : Sleeps u y.plain = subst (Sleeps u) (sym same) sleeps in
     record {
-      first = first_quiet u y (subst (λ (x : Plain). delivery u x.interface ≡ done x.interface) (sym same) (never_turns l.body.ni l.can.never u 0 (omega arith)));
-      second = second_quiet u y (subst (λ (x : Plain). injection u x.interface ≡ done x.interface) (sym same) (never_turns l.body.ni l.can.never u 1 (omega arith))) ∙ at_rest u y (asleep y u here);
+      first = first_quiet u y (subst (λ (x : Plain). delivery u x.interface ≡ done x.interface) (sym same)
+          (never_turns l.body.ni l.can.never u 0 (omega arith)));
+      second = second_quiet u y (subst (λ (x : Plain). injection u x.interface ≡ done x.interface) (sym same)
+          (never_turns l.body.ni l.can.never u 1 (omega arith))) ∙ at_rest u y (asleep y u here);
       none = none_done y u (idle_or_busy y u here);
     }
 
 pub skipped : (x : Core) (l : Lone) (later : ℕ) (runs : RunsAs l x) → l.cycle ≤ later
-    → ((u : ℕ) → l.cycle ≤ u → u < later → Sleeps u (plain_of l.body)) → IsAsBefore x (core_of l.body runs.seen) l.cycle later
+    → ((u : ℕ) → l.cycle ≤ u → u < later → Sleeps u (plain_of l.body))
+    → IsAsBefore x (core_of l.body runs.seen) l.cycle later
 skipped x l later runs from sleeps =
     let sum : later_by (later - l.cycle) l.cycle ≡ later - l.cycle + l.cycle = later_sum (later - l.cycle) l.cycle in
     let far : later_by (later - l.cycle) l.cycle ≡ later = omega (arith, sum, from) in
     let y : Core = core_of l.body runs.seen in
     subst (λ u. IsAsBefore x y l.cycle u) far
-    (slept x y l.cycle (later - l.cycle) runs.core (λ u after below. quiet_in l y u refl (sleeps u after (omega (arith, below, from)))))
+    (slept x y l.cycle (later - l.cycle) runs.core (λ u after below. quiet_in l y u refl
+    (sleeps u after (omega (arith, below, from)))))

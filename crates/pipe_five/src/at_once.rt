@@ -2,7 +2,6 @@ use crate::follow::has_few_words;
 use crate::latches::Latches;
 use crate::lone::Lone;
 use patmos_instr::Guard;
-use patmos_model::{Flow, Goal};
 use patmos_step::Class;
 use slot_arbiter::MOST_CYCLES;
 
@@ -51,7 +50,7 @@ impl Lone {
 
     // the offset of the bundle that comes in the cycle, where no flow is due but a branch to a place in the function
     #[inline(always)]
-    #[tactic(auto, using(patmos_step::proofs::ByItself::lands_here, patmos_step::proofs::ByItself::lands_later, patmos_step::proofs::ByItself::lands_within, crate::proofs::AtOnce::can_begin))]
+    #[tactic(auto, using(crate::proofs::AtOnce::can_begin))]
     fn next_offset(&self) -> Option<u32>
         ensures lands { IfSome result (λ offset. CanLand offset (plain_of self.now.body)) }
         ensures runs { IfSome result (λ offset. is_running (plain_of self.now.body) ≡ true) }
@@ -60,16 +59,7 @@ impl Lone {
         if !self.can_begin() {
             return None;
         }
-        match self.body.flow {
-            Some(
-                Flow {
-                    goal: Goal::Within { offset },
-                    slots: 0,
-                },
-            ) if offset < self.body.size => Some(offset),
-            Some(Flow { slots: 0, .. }) => None,
-            _ => Some(self.body.offset),
-        }
+        Some(self.body.next_offset()?)
     }
 
     // whether the next bundle comes in the cycle

@@ -12,24 +12,31 @@ pub after-append : (xs ys : List Operation) (words : ℕ → ℕ) → after (xs 
 after-append [] ys words = refl
 after-append (x ∷ xs) ys words = after-append xs ys (written x words)
 
-pub stored_last-append : (word : ℕ) (xs ys : List Operation) (begun : ℕ) → stored_last word (xs ++ ys) begun ≡ stored_last word ys (stored_last word xs begun)
+pub stored_last-append : (word : ℕ) (xs ys : List Operation) (begun : ℕ) → stored_last word (xs ++ ys) begun
+    ≡ stored_last word ys (stored_last word xs begun)
 stored_last-append word [] ys begun = refl
-stored_last-append word (x ∷ xs) ys begun = stored_last-append word xs ys (cond (x.act.write && (x.act.word == word)) x.act.value begun)
+stored_last-append word (x ∷ xs) ys begun =
+    stored_last-append word xs ys (cond (x.act.write && (x.act.word == word)) x.act.value begun)
 
-written_one : (o : Operation) (words : ℕ → ℕ) (word : ℕ) → written o words word ≡ cond (o.act.write && (o.act.word == word)) o.act.value (words word)
+written_one : (o : Operation) (words : ℕ → ℕ) (word : ℕ) → written o words word
+    ≡ cond (o.act.write && (o.act.word == word)) o.act.value (words word)
 written_one o words word = by o.act.write
   where
-    by : (b : Bool) → (elim b as (λ _. ℕ → ℕ) [ true ↦ put o.act.word o.act.value words | false ↦ words ]) word ≡ cond (b && (o.act.word == word)) o.act.value (words word)
+    by : (b : Bool) → (elim b as (λ _. ℕ → ℕ) [ true ↦ put o.act.word o.act.value words | false ↦ words ]) word
+        ≡ cond (b && (o.act.word == word)) o.act.value (words word)
     by true = refl
     by false = refl
 
 -- a word has what was stored last in it
-pub after_is_stored : (os : List Operation) (words : ℕ → ℕ) (word : ℕ) → after os words word ≡ stored_last word os (words word)
+pub after_is_stored : (os : List Operation) (words : ℕ → ℕ) (word : ℕ) → after os words word
+    ≡ stored_last word os (words word)
 after_is_stored [] words word = refl
-after_is_stored (o ∷ os) words word = after_is_stored os (written o words) word ∙ ap (stored_last word os) (written_one o words word)
+after_is_stored (o ∷ os) words word =
+    after_is_stored os (written o words) word ∙ ap (stored_last word os) (written_one o words word)
 
 -- stores in other words, and loads, leave what was stored last
-pub stored_last-others : (word : ℕ) (os : List Operation) (begun : ℕ) → Each (LeavesWord word) os → stored_last word os begun ≡ begun
+pub stored_last-others : (word : ℕ) (os : List Operation) (begun : ℕ) → Each (LeavesWord word) os
+    → stored_last word os begun ≡ begun
 stored_last-others word [] begun h = refl
 stored_last-others word (o ∷ os) begun h = rw (not_stored (o.act.write) refl) (stored_last-others word os begun h.1)
   where
@@ -38,13 +45,15 @@ stored_last-others word (o ∷ os) begun h = rw (not_stored (o.act.write) refl) 
     not_stored false e = ap (λ b. b && (o.act.word == word)) e
 
 -- so what was stored last is the value of the last store in the word
-pub stored_last-store : (word : ℕ) (earlier later : List Operation) (s value begun : ℕ) → Each (LeavesWord word) later → stored_last word (earlier ++ store s word value ∷ later) begun ≡ value
+pub stored_last-store : (word : ℕ) (earlier later : List Operation) (s value begun : ℕ) → Each (LeavesWord word) later
+    → stored_last word (earlier ++ store s word value ∷ later) begun ≡ value
 stored_last-store word earlier later s value begun h =
     stored_last-append word earlier (store s word value ∷ later) begun
     ∙ stored_last-others word later (cond (word == word) value (stored_last word earlier begun)) h
     ∙ rw (eq-eqb word word refl)
 
-pub sees-append : (words : ℕ → ℕ) (xs ys : List Operation) → Sees words xs → Sees (after xs words) ys → Sees words (xs ++ ys)
+pub sees-append : (words : ℕ → ℕ) (xs ys : List Operation) → Sees words xs → Sees (after xs words) ys
+    → Sees words (xs ++ ys)
 sees-append words [] ys a b = b
 sees-append words (x ∷ xs) ys a b = (a.0, sees-append (written x words) xs ys a.1 b)
 
@@ -79,7 +88,8 @@ played_sees s (set word value rest) words = (λ e. absurd (true≢false e), play
 
 -- ---- words as a list
 
-pub word_put : (words : List ℕ) (at value : ℕ) → at < length words → (word : ℕ) → slice_index (slice_set words at value) word ≡ put at value (slice_index words) word
+pub word_put : (words : List ℕ) (at value : ℕ) → at < length words → (word : ℕ)
+    → slice_index (slice_set words at value) word ≡ put at value (slice_index words) word
 word_put words at value below word = elim (cases_eq word at) [
   | inl here ↦ ap (slice_index (slice_set words at value)) here ∙ get_or-set_same words at value 0 below
       ∙ sym (ap (λ b. cond b value (slice_index words word)) (eq-eqb at word (sym here)))
@@ -88,5 +98,6 @@ word_put words at value below word = elim (cases_eq word at) [
 ]
 
 -- a word changed in the list is the word put in the function
-pub words_put : (words : List ℕ) (at value : ℕ) → at < length words → slice_index (slice_set words at value) ≡ put at value (slice_index words)
+pub words_put : (words : List ℕ) (at value : ℕ) → at < length words → slice_index (slice_set words at value)
+    ≡ put at value (slice_index words)
 words_put words at value below = λ i word. word_put words at value below word i

@@ -1,4 +1,5 @@
--- In the tree of a valid program no private variable stands inside a private array: a name outside functions is declared once,
+-- In the tree of a valid program no private variable stands inside a private array: a name outside functions is
+-- declared once,
 -- and so it stands for its own slot and is read and set as what it is declared as.
 use Rattle.std.proofs.Common.{◌≡◌, ◌≢◌, ℕ, ◌+◌, Bool, true, false, if◌then◌else◌, List, [], ◌∷◌, ◌++◌, length, Option, Some, None, bytes_eq, refl, ap, sym, ◌∙◌, arith, subst, true≢false}
 use Rattle.std.specs.Prelude.{IsTrue, ◌&&◌, nat_lt, is_some, codes, sum_by, ◌==◌, ◌||◌}
@@ -33,7 +34,8 @@ use Rattle.single_path.proofs.Valid.{found_last}
 -- ---- names outside functions
 
 -- a name that is declared without a fault is new
-declared_once : (names : List Named) (at : ℕ) (text : List ℕ) → IsTrue (has_none (twice_faults 0 names at text)) → found text names ≡ None
+declared_once : (names : List Named) (at : ℕ) (text : List ℕ) → IsTrue (has_none (twice_faults 0 names at text))
+    → found text names ≡ None
 declared_once names at text none = by (found text names) (not_so (is_declared text 0 names) at fault.Twice none)
   where
     by : (f : Option Meaning) → is_some f ≡ false → f ≡ None
@@ -60,7 +62,8 @@ not_found names name text m new = by (bytes_eq name text) refl
     by false other = (other, found_before names name text m None new other)
 
 -- the name of a variable or an array without a fault is new
-global_new : (names : List Named) (at : ℕ) (g : Global) → IsTrue (has_none (global_faults names at g)) → found g.name names ≡ None
+global_new : (names : List Named) (at : ℕ) (g : Global) → IsTrue (has_none (global_faults names at g))
+    → found g.name names ≡ None
 global_new names at g none =
     let name_at = at + (if g.scratch then 1 else 0) + kind_size g.kind in
     declared_once names name_at g.name
@@ -69,62 +72,77 @@ global_new names at g none =
     ++ where_so (words_of g == 0 || nat_lt (words_of g) (length g.initial)) name_at fault.Data) none)
 
 -- no later item has a name that is known: after the known ones it stands only for what is given
-given_last : (names : List Named) (text : List ℕ) → is_some (found text names) ≡ true → (private scratch cores own at : ℕ) (items : List PlainItem)
-    → IsTrue (has_none (items_faults cores own names at items)) → among_slots text (slots_from private scratch items) ≡ among_slots text given_slots
+given_last : (names : List Named) (text : List ℕ) → is_some (found text names) ≡ true
+    → (private scratch cores own at : ℕ) (items : List PlainItem)
+    → IsTrue (has_none (items_faults cores own names at items)) → among_slots text (slots_from private scratch items)
+    ≡ among_slots text given_slots
 given_last names text known private scratch cores own at [] none = refl
 given_last names text known private scratch cores own at (global g ∷ items) none =
     by (bytes_eq g.name text) refl
-    (given_last (declared names g.name (means_of g)) text (still_found names g.name text (means_of g) known) (private + item_words false (global g))
+    (given_last (declared names g.name (means_of g)) text (still_found names g.name text (means_of g) known)
+    (private + item_words false (global g))
     (scratch + item_words true (global g)) cores own (at + item_size (global g)) items
-    (none_right (global_faults names at g) (items_faults cores own (declared names g.name (means_of g)) (at + item_size (global g)) items) none))
+    (none_right (global_faults names at g) (items_faults cores own (declared names g.name (means_of g))
+    (at + item_size (global g)) items) none))
   where
     later : List PlainItem → List Slot
     later = slots_from (private + item_words false (global g)) (scratch + item_words true (global g))
 
     once : found g.name names ≡ None
     once = global_new names at g
-        (none_left (global_faults names at g) (items_faults cores own (declared names g.name (means_of g)) (at + item_size (global g)) items) none)
+        (none_left (global_faults names at g) (items_faults cores own (declared names g.name (means_of g))
+        (at + item_size (global g)) items) none)
 
     by : (same : Bool) → bytes_eq g.name text ≡ same → among_slots text (later items) ≡ among_slots text given_slots
-        → (if same then outside (slot_of private scratch g) else among_slots text (later items)) ≡ among_slots text given_slots
+        → (if same then outside (slot_of private scratch g) else among_slots text (later items))
+        ≡ among_slots text given_slots
     by true same only =
-        absurd (true≢false (sym known ∙ ap (λ t. is_some (found t names)) (sym ((bytes_eq-Decides g.name text).0 same)) ∙ ap is_some once))
+        absurd (true≢false (sym known ∙ ap (λ t. is_some (found t names)) (sym ((bytes_eq-Decides g.name text).0 same))
+        ∙ ap is_some once))
     by false other only = only
 given_last names text known private scratch cores own at (function kind its_name void_word ps body ∷ items) none =
     let f = function kind its_name void_word ps body in
-    given_last (with_item names f) text (still_found names its_name text (function_means false kind ps) known) (private + item_words false f)
+    given_last (with_item names f) text (still_found names its_name text (function_means false kind ps) known)
+    (private + item_words false f)
     (scratch + item_words true f) cores own (at + item_size f) items
-    (none_right (item_faults cores own names at f) (items_faults cores own (with_item names f) (at + item_size f) items) none)
+    (none_right (item_faults cores own names at f) (items_faults cores own (with_item names f) (at + item_size f) items)
+    none)
 
 -- ---- what is known before some of a program's items
 
--- the names before these items are kept; a name that is not among them stands for what it does among these items' slots; and
+-- the names before these items are kept; a name that is not among them stands for what it does among these items'
+-- slots; and
 -- the private words of these items are those of all
 record Laid (all : List PlainItem) (names : List Named) (private scratch : ℕ) (items : List PlainItem) : Type 0 where
   keeps : Keeps (Kept all) names (record { slots = layout_of all; variables = [] })
-  unseen : (text : List ℕ) → found text names ≡ None → among_slots text (layout_of all) ≡ among_slots text (slots_from private scratch items)
+  unseen : (text : List ℕ) → found text names ≡ None → among_slots text (layout_of all)
+      ≡ among_slots text (slots_from private scratch items)
   same : SameFrom all private items
 
-same_behind : (all items : List PlainItem) (private : ℕ) (i : PlainItem) → SameFrom all private (i ∷ items)
+same_after : (all items : List PlainItem) (private : ℕ) (i : PlainItem) → SameFrom all private (i ∷ items)
     → SameFrom all (private + item_words false i) items
-same_behind all items private i same word past =
+same_after all items private i same word past =
     let end = private + item_words false i in
     same word (omega (arith, past)) ∙ if_past word end (is_array i) (in_array end items word) past
 
 -- ---- after a variable or an array
 
-variable_means : (l : Option Length) → (elim l as (λ _. Meaning) [ None ↦ means.Scalar | Some n ↦ means.Array ]) ≡ means.Scalar → l ≡ None
+variable_means : (l : Option Length) → (elim l as (λ _. Meaning) [ None ↦ means.Scalar | Some n ↦ means.Array ])
+    ≡ means.Scalar → l ≡ None
 variable_means None is = refl
 variable_means (Some n) is = absurd (cc)
 
-array_means : (l : Option Length) → (elim l as (λ _. Meaning) [ None ↦ means.Scalar | Some n ↦ means.Array ]) ≡ means.Array
+array_means : (l : Option Length) → (elim l as (λ _. Meaning) [ None ↦ means.Scalar | Some n ↦ means.Array ])
+    ≡ means.Array
     → (n : Length) × (l ≡ Some n)
 array_means None is = absurd (cc)
 array_means (Some n) is = (n, refl)
 
-laid_global : (all : List PlainItem) (names : List Named) (private scratch : ℕ) (g : Global) (items : List PlainItem) → found g.name names ≡ None
+laid_global : (all : List PlainItem) (names : List Named) (private scratch : ℕ) (g : Global) (items : List PlainItem)
+    → found g.name names ≡ None
     → Laid all names private scratch (global g ∷ items)
-    → Laid all (declared names g.name (means_of g)) (private + item_words false (global g)) (scratch + item_words true (global g)) items
+    → Laid all (declared names g.name (means_of g)) (private + item_words false (global g)) (scratch
+    + item_words true (global g)) items
 laid_global all names private scratch g items new laid = record {
   keeps = record {
     scalars = λ text is. let kept = scalar text is (bytes_eq g.name text) refl in (kept, kept);
@@ -133,8 +151,9 @@ laid_global all names private scratch g items new laid = record {
   };
   unseen = λ text none.
       let before = not_found names g.name text m none in
-      laid.unseen text before.1 ∙ ap (λ b. if b then outside (slot_of private scratch g) else among_slots text rest) before.0;
-  same = same_behind all items private (global g) laid.same;
+      laid.unseen text before.1 ∙ ap (λ b. if b then outside (slot_of private scratch g) else among_slots text
+      rest) before.0;
+  same = same_after all items private (global g) laid.same;
 }
   where
     m : Meaning
@@ -144,37 +163,49 @@ laid_global all names private scratch g items new laid = record {
     rest = slots_from (private + item_words false (global g)) (scratch + item_words true (global g)) items
 
     -- the name stands for its own slot
-    own : (text : List ℕ) → bytes_eq g.name text ≡ true → among_slots text (layout_of all) ≡ outside (slot_of private scratch g)
+    own : (text : List ℕ) → bytes_eq g.name text ≡ true → among_slots text (layout_of all)
+        ≡ outside (slot_of private scratch g)
     own text same =
         laid.unseen text (ap (λ t. found t names) (sym ((bytes_eq-Decides g.name text).0 same)) ∙ new)
         ∙ ap (λ b. if b then outside (slot_of private scratch g) else among_slots text rest) same
 
-    scalar : (text : List ℕ) → found text (declared names g.name m) ≡ Some means.Scalar → (b : Bool) → bytes_eq g.name text ≡ b
+    scalar : (text : List ℕ) → found text (declared names g.name m) ≡ Some means.Scalar → (b : Bool)
+        → bytes_eq g.name text ≡ b
         → Outside (CellRead (Kept all)) (among_slots text (layout_of all))
     scalar text is true same =
         let some : Some m ≡ Some means.Scalar = sym (found_same names g.name text m same) ∙ is in
         let none = variable_means g.length (cc) in
-        subst (Outside (CellRead (Kept all))) (sym (own text same)) (variable_slot all items private scratch g laid.same none)
-    scalar text is false other = (laid.keeps.scalars text (found_before names g.name text m (Some means.Scalar) is other)).0
+        subst (Outside (CellRead (Kept all))) (sym (own text same)) (variable_slot all items private scratch g
+        laid.same none)
+    scalar text is false other =
+        (laid.keeps.scalars text (found_before names g.name text m (Some means.Scalar) is other)).0
 
-    array : (text : List ℕ) → found text (declared names g.name m) ≡ Some means.Array → (b : Bool) → bytes_eq g.name text ≡ b
+    array : (text : List ℕ) → found text (declared names g.name m) ≡ Some means.Array → (b : Bool)
+        → bytes_eq g.name text ≡ b
         → Outside (ArrayRead (Kept all)) (among_slots text (layout_of all))
     array text is true same =
         let some : Some m ≡ Some means.Array = sym (found_same names g.name text m same) ∙ is in
         let n = array_means g.length (cc) in
-        subst (Outside (ArrayRead (Kept all))) (sym (own text same)) (array_slot all items private scratch g n.0 laid.same n.1)
-    array text is false other = (laid.keeps.arrays text (found_before names g.name text m (Some means.Array) is other)).0
+        subst (Outside (ArrayRead (Kept all))) (sym (own text same))
+        (array_slot all items private scratch g n.0 laid.same n.1)
+    array text is false other =
+        (laid.keeps.arrays text (found_before names g.name text m (Some means.Array) is other)).0
 
 -- ---- after a function, which has no slot
 
-laid_function : (all : List PlainItem) (names : List Named) (private scratch : ℕ) (f : PlainItem) (items : List PlainItem) (name : List ℕ) (c : ℕ)
-    (gives : Bool) → slots_from private scratch (f ∷ items) ≡ slots_from (private + item_words false f) (scratch + item_words true f) items
+laid_function : (all : List PlainItem) (names : List Named) (private scratch : ℕ) (f : PlainItem)
+    (items : List PlainItem) (name : List ℕ) (c : ℕ)
+    (gives : Bool) → slots_from private scratch (f ∷ items) ≡ slots_from (private + item_words false f) (scratch
+    + item_words true f) items
     → Laid all names private scratch (f ∷ items)
-    → Laid all (declared names name (means.Function c gives false)) (private + item_words false f) (scratch + item_words true f) items
+    → Laid all (declared names name (means.Function c gives false)) (private + item_words false f) (scratch
+    + item_words true f) items
 laid_function all names private scratch f items name c gives slots laid = record {
-  keeps = keeps_function (Kept all) names (record { slots = layout_of all; variables = [] }) name c gives false laid.keeps;
-  unseen = λ text none. laid.unseen text (not_found names name text (means.Function c gives false) none).1 ∙ ap (among_slots text) slots;
-  same = same_behind all items private f laid.same;
+  keeps = keeps_function (Kept all) names (record { slots = layout_of all; variables = [] }) name c gives
+      false laid.keeps;
+  unseen = λ text none. laid.unseen text (not_found names name text (means.Function c gives false) none).1
+      ∙ ap (among_slots text) slots;
+  same = same_after all items private f laid.same;
 }
 
 -- ---- before all items
@@ -183,16 +214,21 @@ among_all : (Q : Slot → Type 0) (text : List ℕ) (slots : List Slot) → Each
 among_all Q text [] all = tt
 among_all Q text (s ∷ slots) all = by (bytes_eq s.name text) (among_all Q text slots all.1)
   where
-    by : (here : Bool) → Outside Q (among_slots text slots) → Outside Q (if here then outside s else among_slots text slots)
+    by : (here : Bool) → Outside Q (among_slots text slots)
+        → Outside Q (if here then outside s else among_slots text slots)
     by true later = all.0
     by false later = later
 
 -- the arrays that are given are not private
 given_kept : (all : List PlainItem) (text : List ℕ) → Outside (ArrayRead (Kept all)) (among_slots text given_slots)
 given_kept all text =
-    among_all (ArrayRead (Kept all)) text given_slots ((λ private word from below. absurd (cc)), ((λ private word from below. absurd (cc)), tt))
+    among_all (ArrayRead (Kept all)) text given_slots (
+      (λ private word from below. absurd (cc)),
+      ((λ private word from below. absurd (cc)), tt),
+    )
 
-laid_first : (items : List PlainItem) (cores own : ℕ) → IsTrue (has_none (items_faults cores own given 0 items)) → Laid items given 4 0 items
+laid_first : (items : List PlainItem) (cores own : ℕ) → IsTrue (has_none (items_faults cores own given 0 items))
+    → Laid items given 4 0 items
 laid_first items cores own none = record {
   keeps = record {
     scalars = λ text is. absurd (no_scalar (bytes_eq (codes "comm") text) (bytes_eq (codes "shared") text) is);
@@ -207,37 +243,47 @@ laid_first items cores own none = record {
     array_at at text = record { at = at; is = record { name = text; means = means.Array } }
 
     no_scalar : (b d : Bool)
-        → option_map (λ f. f.is.means) (option_or (option_or None (if b then Some (array_at 1 (codes "comm")) else None))
+        → option_map (λ f. f.is.means) (option_or
+        (option_or None (if b then Some (array_at 1 (codes "comm")) else None))
         (if d then Some (array_at 0 (codes "shared")) else None)) ≢ Some means.Scalar
     no_scalar true d is = absurd (cc)
     no_scalar false true is = absurd (cc)
     no_scalar false false is = absurd (cc)
 
-    array : (text : List ℕ) → is_some (found text given) ≡ true → Outside (ArrayRead (Kept items)) (among_slots text (layout_of items))
-    array text known = subst (Outside (ArrayRead (Kept items))) (sym (given_last given text known 4 0 cores own 0 items none)) (given_kept items text)
+    array : (text : List ℕ) → is_some (found text given) ≡ true → Outside (ArrayRead (Kept items)) (among_slots text
+        (layout_of items))
+    array text known = subst (Outside (ArrayRead (Kept items)))
+        (sym (given_last given text known 4 0 cores own 0 items none)) (given_kept items text)
 
 -- ---- programs
 
-items_kept : (all : List PlainItem) (names : List Named) (private scratch : ℕ) (fs : List (List ℕ)) (cores own at : ℕ) (items : List PlainItem)
+items_kept : (all : List PlainItem) (names : List Named) (private scratch : ℕ) (fs : List (List ℕ)) (cores own at : ℕ)
+    (items : List PlainItem)
     → Laid all names private scratch items → IsTrue (has_none (items_faults cores own names at items))
     → Each (Do (Kept all)) (resolved_items (layout_of all) fs items)
 items_kept all names private scratch fs cores own at [] laid none = tt
 items_kept all names private scratch fs cores own at (global g ∷ items) laid none =
     let here = global_faults names at g in
     let behind = items_faults cores own (declared names g.name (means_of g)) (at + item_size (global g)) items in
-    items_kept all (declared names g.name (means_of g)) (private + item_words false (global g)) (scratch + item_words true (global g)) fs cores own
+    items_kept all (declared names g.name (means_of g)) (private + item_words false (global g))
+    (scratch + item_words true (global g)) fs cores own
     (at + item_size (global g)) items
-    (laid_global all names private scratch g items (global_new names at g (none_left here behind none)) laid) (none_right here behind none)
+    (laid_global all names private scratch g items (global_new names at g (none_left here behind none)) laid)
+    (none_right here behind none)
 items_kept all names private scratch fs cores own at (function kind name void_word ps body ∷ items) laid none =
     let f = function kind name void_word ps body in
     let here = item_faults cores own names at f in
     let behind = items_faults cores own (with_item names f) (at + item_size f) items in (
-      function_checked (Kept all) names (layout_of all) fs cores own at kind name void_word ps body laid.keeps (none_left here behind none),
-      items_kept all (with_item names f) (private + item_words false f) (scratch + item_words true f) (fs ++ name ∷ []) cores own (at + item_size f) items
-          (laid_function all names private scratch f items name (length ps) (is_some kind) refl laid) (none_right here behind none),
+      function_checked (Kept all) names (layout_of all) fs cores own at kind name void_word ps body laid.keeps
+          (none_left here behind none),
+      items_kept all (with_item names f) (private + item_words false f) (scratch + item_words true f) (fs ++ name ∷ [])
+          cores own (at + item_size f) items
+          (laid_function all names private scratch f items name (length ps) (is_some kind) refl laid)
+          (none_right here behind none),
     )
 
-pub valid_apart : (items : List PlainItem) (cores own : ℕ) → IsValid items cores own → are_apart (uses_of (with_calls items)) ≡ true
+pub valid_apart : (items : List PlainItem) (cores own : ℕ) → IsValid items cores own
+    → are_apart (uses_of (with_calls items)) ≡ true
 valid_apart items cores own valid =
     let none = none_left (items_faults cores own given 0 items) (end_faults (sum_by item_size items) items) valid in
     let all = uses_of (with_calls items) in

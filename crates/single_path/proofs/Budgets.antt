@@ -12,7 +12,8 @@ use Rattle.single_path.proofs.FramesWithin.{frame_within}
 
 pub costs_within : (slots : List Slot) (fs : List (List ℕ)) (items : List PlainItem) (k : ℕ)
     → k < length (made_functions (parameters_in items) (resolved_items slots fs items))
-    → cost (slice_index_or (made_functions (parameters_in items) (resolved_items slots fs items)) k no_function) ≤ slice_index (weights_in items) k
+    → cost (slice_index_or (made_functions (parameters_in items) (resolved_items slots fs items)) k no_function)
+    ≤ slice_index (weights_in items) k
 costs_within slots fs [] k within = absurd (omega (arith, within))
 costs_within slots fs (global g ∷ items) k within = costs_within slots fs items k within
 costs_within slots fs (function kind text void_word parameters body ∷ items) zero within =
@@ -22,9 +23,11 @@ costs_within slots fs (function kind text void_word parameters body ∷ items) (
 
 pub frames_within : (slots : List Slot) (fs : List (List ℕ)) (items : List PlainItem) (k : ℕ)
     → k < length (made_functions (parameters_in items) (resolved_items slots fs items))
-    → (slice_index_or (made_functions (parameters_in items) (resolved_items slots fs items)) k no_function).frame ≤ slice_index (frames_in items) k
+    → (slice_index_or (made_functions (parameters_in items) (resolved_items slots fs items)) k no_function).frame
+    ≤ slice_index (frames_in items) k
 frames_within slots fs [] k within = absurd (omega (arith, within))
 frames_within slots fs (global g ∷ items) k within = frames_within slots fs items k within
-frames_within slots fs (function kind text void_word parameters body ∷ items) zero within = frame_within fs slots parameters body
+frames_within slots fs (function kind text void_word parameters body ∷ items) zero within =
+    frame_within fs slots parameters body
 frames_within slots fs (function kind text void_word parameters body ∷ items) (suc k) within =
     frames_within slots (fs ++ text ∷ []) items k (omega (arith, within))

@@ -1,4 +1,5 @@
--- What the actions of checked statements do with memories has a property, where it holds of what their names stand for: names
+-- What the actions of checked statements do with memories has a property, where it holds of what their names stand
+-- for: names
 -- of variables are read and set as variables there, and names of arrays as arrays.
 use Rattle.std.proofs.Common.{◌≡◌, ℕ, ◌+◌, Bool, true, false, List, [], ◌∷◌, ◌++◌, length, Option, Some, None, refl}
 use Rattle.std.specs.Prelude.{IsTrue, not, is_some, nat_lt}
@@ -47,7 +48,8 @@ array_found at _ none = absurd (cc)
 mutual
   unfolding expr_faults
 
-  expr_checked : (P : Use → Type 0) (names : List Named) (of : Names) → Keeps P names of → (fresh : Option ℕ) (at : ℕ) (e : PlainExpr)
+  expr_checked : (P : Use → Type 0) (names : List Named) (of : Names) → Keeps P names of → (fresh : Option ℕ) (at : ℕ)
+      (e : PlainExpr)
       → IsTrue (has_none (expr_faults names at e)) → ExprDoes P (resolved of fresh e)
   expr_checked P names of k fresh at (plain.chain l first rest) none =
       let begun = expr_faults names at first in
@@ -62,27 +64,35 @@ mutual
   expr_checked P names of k fresh at (plain.element text index) none =
       let here = array_faults names at text in
       let inner = expr_faults names (at + 2) index in
-      element_does P (named of text) (resolved of fresh index) (k.arrays text (array_found at (found text names) (none_left here inner none))).0
+      element_does P (named of text) (resolved of fresh index)
+      (k.arrays text (array_found at (found text names) (none_left here inner none))).0
       (expr_checked P names of k fresh (at + 2) index (none_right here inner none))
   expr_checked P names of k fresh at (plain.paren e) none = expr_checked P names of k fresh (at + 1) e none
 
-  steps_checked : (P : Use → Type 0) (names : List Named) (of : Names) → Keeps P names of → (fresh : Option ℕ) (at : ℕ) (u : Bool) (a : PlainSp)
-      (steps : PlainSteps) → ExprDoes P a → IsTrue (has_none (steps_faults names at steps)) → ExprDoes P (resolved_steps of fresh u a steps)
+  steps_checked : (P : Use → Type 0) (names : List Named) (of : Names) → Keeps P names of → (fresh : Option ℕ) (at : ℕ)
+      (u : Bool) (a : PlainSp)
+      (steps : PlainSteps) → ExprDoes P a → IsTrue (has_none (steps_faults names at steps))
+      → ExprDoes P (resolved_steps of fresh u a steps)
   steps_checked P names of k fresh at u a plain.no_step does none = does
   steps_checked P names of k fresh at u a (plain.step op operand rest) does none =
       let v = works_unsigned op u (expr_unsigned of operand) in
       let b = resolved of fresh operand in
       let here = expr_faults names (at + 1) operand in
       let behind = steps_faults names (at + (1 + expr_size operand)) rest in
-      steps_checked P names of k fresh (at + (1 + expr_size operand)) (gives_unsigned op u (expr_unsigned of operand)) (resolved_between op v a b) rest
-      (between_does P op v a b does (expr_checked P names of k fresh (at + 1) operand (none_left here behind none))) (none_right here behind none)
+      steps_checked P names of k fresh (at + (1 + expr_size operand)) (gives_unsigned op u (expr_unsigned of operand))
+      (resolved_between op v a b) rest
+      (between_does P op v a b does (expr_checked P names of k fresh (at + 1) operand (none_left here behind none)))
+      (none_right here behind none)
 
-whole_checked : (P : Use → Type 0) (names : List Named) (of : Names) → Keeps P names of → (fresh : Option ℕ) (at : ℕ) (e : PlainExpr)
+whole_checked : (P : Use → Type 0) (names : List Named) (of : Names) → Keeps P names of → (fresh : Option ℕ) (at : ℕ)
+    (e : PlainExpr)
     → IsTrue (has_none (whole_faults names at e)) → ExprDoes P (resolved of fresh e)
 whole_checked P names of k fresh at e none =
-    expr_checked P names of k fresh at e (none_right (where_so (nat_lt 12 (expr_depth e)) at fault.Deep) (expr_faults names at e) none)
+    expr_checked P names of k fresh at e (none_right (where_so (nat_lt 12 (expr_depth e)) at fault.Deep)
+    (expr_faults names at e) none)
 
-args_checked : (P : Use → Type 0) (names : List Named) (of : Names) → Keeps P names of → (fresh : Option ℕ) (at : ℕ) (args : List PlainExpr)
+args_checked : (P : Use → Type 0) (names : List Named) (of : Names) → Keeps P names of → (fresh : Option ℕ) (at : ℕ)
+    (args : List PlainExpr)
     → IsTrue (has_none (args_faults names at args)) → Each (ExprDoes P) (resolved_args of fresh args)
 args_checked P names of k fresh at [] none = tt
 args_checked P names of k fresh at (e ∷ args) none =
@@ -94,7 +104,8 @@ args_checked P names of k fresh at (e ∷ args) none =
 
 -- ---- right sides and heads of loops
 
-right_checked : (P : Use → Type 0) (fs : List (List ℕ)) (names : List Named) (of : Names) → Keeps P names of → (fresh : Option ℕ) (at : ℕ)
+right_checked : (P : Use → Type 0) (fs : List (List ℕ)) (names : List Named) (of : Names) → Keeps P names of
+    → (fresh : Option ℕ) (at : ℕ)
     (target : Option PlainTarget) (r : PlainRight) → ResultDoes P target → IsTrue (has_none (right_faults names at r))
     → Do P (resolved_right fs of fresh target r)
 right_checked P fs names of k fresh at target (plain.value e) may none =
@@ -105,19 +116,24 @@ right_checked P fs names of k fresh at target (plain.call text args) may none =
     (none_right (callee_faults true at (length args) (found text names)) (args_faults names (at + 2) args) none)) may
 
 -- a variable that a `for` sets, and what it is set to
-assigned_checked : (P : Use → Type 0) (names : List Named) (of : Names) → Keeps P names of → (at : ℕ) (text : List ℕ) (e : PlainExpr)
-    → IsTrue (has_none (assigned_faults names at text e)) → ResultDoes P (variable_target (named of text)) × ExprDoes P (resolved of None e)
+assigned_checked : (P : Use → Type 0) (names : List Named) (of : Names) → Keeps P names of → (at : ℕ) (text : List ℕ)
+    (e : PlainExpr)
+    → IsTrue (has_none (assigned_faults names at text e)) → ResultDoes P (variable_target (named of text))
+    × ExprDoes P (resolved of None e)
 assigned_checked P names of k at text e none =
     let here = scalar_faults names at text in
     let behind = whole_faults names (at + 2) e in (
-      variable_target_does P (named of text) (k.scalars text (scalar_found at (found text names) (none_left here behind none))).1,
+      variable_target_does P (named of text)
+          (k.scalars text (scalar_found at (found text names) (none_left here behind none))).1,
       whole_checked P names of k None (at + 2) e (none_right here behind none),
     )
 
 head_checked : (P : Use → Type 0) (names : List Named) (of : Names) → Keeps P names of → (at : ℕ) (head : PlainHead)
     → IsTrue (has_none (head_faults names at head))
-    → Do P (maybe_sets (resolved_begin of head)) × ExprDoes P (resolved_condition of head) × StepDoes P (resolved_next of head)
-head_checked P names of k at (plain.iterations_while condition) none = (tt, whole_checked P names of k None (at + 2) condition none, tt)
+    → Do P (maybe_sets (resolved_begin of head)) × ExprDoes P (resolved_condition of head)
+    × StepDoes P (resolved_next of head)
+head_checked P names of k at (plain.iterations_while condition) none =
+    (tt, whole_checked P names of k None (at + 2) condition none, tt)
 head_checked P names of k at (plain.iterations_for first from condition to_set to) none =
     let second = at + 2 + 2 + expr_size from + 1 in
     let third = second + expr_size condition + 1 in
@@ -137,7 +153,8 @@ head_checked P names of k at (plain.iterations_for first from condition to_set t
 mutual
   unfolding stmt_faults
 
-  stmt_checked : (P : Use → Type 0) (fs : List (List ℕ)) (names : List Named) (of : Names) → Keeps P names of → (w : Within) (at : ℕ) (s : PlainStmt)
+  stmt_checked : (P : Use → Type 0) (fs : List (List ℕ)) (names : List Named) (of : Names) → Keeps P names of
+      → (w : Within) (at : ℕ) (s : PlainStmt)
       → IsTrue (has_none (stmt_faults w names at s)) → Do P (resolved_stmt fs of s)
   stmt_checked P fs names of k w at (plain.declared kind text None) none = ((tt, tt), tt)
   stmt_checked P fs names of k w at (plain.declared kind text (Some r)) none =
@@ -145,12 +162,14 @@ mutual
       let inner = declared names text means.Scalar in
       right_checked P fs inner (with_variable of kind text) (keeps_variable P names of kind text k) (Some own)
       (at + kind_size kind + 2) (Some (to_level own)) r tt
-      (none_right (twice_faults w.outer names (at + kind_size kind) text) (right_faults inner (at + kind_size kind + 2) r) none)
+      (none_right (twice_faults w.outer names (at + kind_size kind) text)
+      (right_faults inner (at + kind_size kind + 2) r) none)
   stmt_checked P fs names of k w at (plain.set text r) none =
       let here = scalar_faults names at text in
       let behind = right_faults names (at + 2) r in
       right_checked P fs names of k None (at + 2) (variable_target (named of text)) r
-      (variable_target_does P (named of text) (k.scalars text (scalar_found at (found text names) (none_left here behind none))).1)
+      (variable_target_does P (named of text)
+      (k.scalars text (scalar_found at (found text names) (none_left here behind none))).1)
       (none_right here behind none)
   stmt_checked P fs names of k w at (plain.set_element text index r) none =
       let here = array_faults names at text in
@@ -159,7 +178,8 @@ mutual
       let others = none_right here (inner ++ behind) none in
       let i = resolved of None index in
       right_checked P fs names of k None (at + 2 + expr_size index + 2) (element_target (named of text) i) r
-      (element_target_does P (named of text) i (k.arrays text (array_found at (found text names) (none_left here (inner ++ behind) none))).1
+      (element_target_does P (named of text) i
+      (k.arrays text (array_found at (found text names) (none_left here (inner ++ behind) none))).1
       (whole_checked P names of k None (at + 2) index (none_left inner behind others))) (none_right inner behind others)
   stmt_checked P fs names of k w at (plain.called text args) none =
       numbered_does P (number_of text fs) (resolved_args of None args) None
@@ -173,7 +193,8 @@ mutual
   stmt_checked P fs names of k w at (plain.chosen arms otherwise) none =
       let first = arms_faults w names at arms in
       let last = otherwise_faults w names (at + arms_size arms) otherwise in
-      choice_does P (resolved_arms fs of arms) (resolved_otherwise fs of otherwise) (arms_checked P fs names of k w at arms (none_left first last none))
+      choice_does P (resolved_arms fs of arms) (resolved_otherwise fs of otherwise)
+      (arms_checked P fs names of k w at arms (none_left first last none))
       (otherwise_checked P fs names of k w (at + arms_size arms) otherwise (none_right first last none))
   stmt_checked P fs names of k w at (plain.looped bound head body) none =
       let bounds = bound_faults at bound in
@@ -182,20 +203,27 @@ mutual
       let others = none_right bounds (heads ++ inside) none in
       let parts = head_checked P names of k (at + bound_size bound) head (none_left heads inside others) in
       actions_joined P (maybe_sets (resolved_begin of head))
-      (actions.one (actions.iterations (most_iterations bound) (resolved_condition of head) (resolved_block fs of body) (resolved_next of head))) parts.0 (
+      (actions.one (actions.iterations (most_iterations bound) (resolved_condition of head) (resolved_block fs of body)
+      (resolved_next of head))) parts.0 (
         (
           parts.1,
-          block_checked P fs names of k (looped w (length names)) (at + bound_size bound + head_size head + 1) body (none_right heads inside others),
+          block_checked P fs names of k (looped w (length names)) (at + bound_size bound + head_size head + 1) body
+              (none_right heads inside others),
           parts.2,
         ),
         tt,
       )
-  stmt_checked P fs names of k w at (plain.returned (Some e)) none =
-      (whole_checked P names of k None (at + 1) e (none_right (where_so (not w.gives) at fault.WrongType) (whole_faults names (at + 1) e) none), tt)
-  stmt_checked P fs names of k w at (plain.inner body) none = block_checked P fs names of k (opened w (length names)) (at + 1) body none
+  stmt_checked P fs names of k w at (plain.returned (Some e)) none = (
+    whole_checked P names of k None (at + 1) e (none_right (where_so (not w.gives) at fault.WrongType)
+        (whole_faults names (at + 1) e) none),
+    tt,
+  )
+  stmt_checked P fs names of k w at (plain.inner body) none =
+      block_checked P fs names of k (opened w (length names)) (at + 1) body none
   stmt_checked P fs names of k w at _ none = (tt, tt)
 
-  block_checked : (P : Use → Type 0) (fs : List (List ℕ)) (names : List Named) (of : Names) → Keeps P names of → (w : Within) (at : ℕ) (b : PlainBlock)
+  block_checked : (P : Use → Type 0) (fs : List (List ℕ)) (names : List Named) (of : Names) → Keeps P names of
+      → (w : Within) (at : ℕ) (b : PlainBlock)
       → IsTrue (has_none (block_faults w names at b)) → Do P (resolved_block fs of b)
   block_checked P fs names of k w at plain.no_stmt none = tt
   block_checked P fs names of k w at (plain.stmt s rest) none =
@@ -203,9 +231,11 @@ mutual
       let behind = block_faults w (after names s) (at + stmt_size s) rest in
       actions_joined P (resolved_stmt fs of s) (resolved_block fs (names_after of s) rest)
       (stmt_checked P fs names of k w at s (none_left here behind none))
-      (block_checked P fs (after names s) (names_after of s) (keeps_after P names of s k) w (at + stmt_size s) rest (none_right here behind none))
+      (block_checked P fs (after names s) (names_after of s) (keeps_after P names of s k) w (at + stmt_size s) rest
+      (none_right here behind none))
 
-  arms_checked : (P : Use → Type 0) (fs : List (List ℕ)) (names : List Named) (of : Names) → Keeps P names of → (w : Within) (at : ℕ) (arms : PlainArms)
+  arms_checked : (P : Use → Type 0) (fs : List (List ℕ)) (names : List Named) (of : Names) → Keeps P names of
+      → (w : Within) (at : ℕ) (arms : PlainArms)
       → IsTrue (has_none (arms_faults w names at arms)) → BranchesDo P (resolved_arms fs of arms)
   arms_checked P fs names of k w at plain.no_arm none = tt
   arms_checked P fs names of k w at (plain.arm condition body rest) none =
@@ -215,18 +245,23 @@ mutual
       let behind = arms_faults w names next rest in
       let here = none_left (tests ++ inside) behind none in (
         whole_checked P names of k None (at + 2) condition (none_left tests inside here),
-        block_checked P fs names of k (opened w (length names)) (at + 2 + expr_size condition + 2) body (none_right tests inside here),
+        block_checked P fs names of k (opened w (length names)) (at + 2 + expr_size condition + 2) body
+            (none_right tests inside here),
         arms_checked P fs names of k w next rest (none_right (tests ++ inside) behind none),
       )
 
-  otherwise_checked : (P : Use → Type 0) (fs : List (List ℕ)) (names : List Named) (of : Names) → Keeps P names of → (w : Within) (at : ℕ)
-      (otherwise : PlainOtherwise) → IsTrue (has_none (otherwise_faults w names at otherwise)) → Do P (resolved_otherwise fs of otherwise)
+  otherwise_checked : (P : Use → Type 0) (fs : List (List ℕ)) (names : List Named) (of : Names) → Keeps P names of
+      → (w : Within) (at : ℕ)
+      (otherwise : PlainOtherwise) → IsTrue (has_none (otherwise_faults w names at otherwise))
+      → Do P (resolved_otherwise fs of otherwise)
   otherwise_checked P fs names of k w at plain.no_else none = tt
-  otherwise_checked P fs names of k w at (plain.or_else body) none = block_checked P fs names of k (opened w (length names)) (at + 1 + 1) body none
+  otherwise_checked P fs names of k w at (plain.or_else body) none =
+      block_checked P fs names of k (opened w (length names)) (at + 1 + 1) body none
 
 -- ---- functions
 
-body_checked : (P : Use → Type 0) (fs : List (List ℕ)) (names : List Named) (of : Names) → Keeps P names of → (w : Within) (at : ℕ)
+body_checked : (P : Use → Type 0) (fs : List (List ℕ)) (names : List Named) (of : Names) → Keeps P names of
+    → (w : Within) (at : ℕ)
     (body : List PlainStmt) → IsTrue (has_none (body_faults w names at body)) → Do P (resolved_body fs of body)
 body_checked P fs names of k w at [] none = tt
 body_checked P fs names of k w at (s ∷ rest) none =
@@ -234,20 +269,26 @@ body_checked P fs names of k w at (s ∷ rest) none =
     let behind = body_faults w (after names s) (at + stmt_size s) rest in
     actions_joined P (resolved_stmt fs of s) (resolved_body fs (names_after of s) rest)
     (stmt_checked P fs names of k w at s (none_left here behind none))
-    (body_checked P fs (after names s) (names_after of s) (keeps_after P names of s k) w (at + stmt_size s) rest (none_right here behind none))
+    (body_checked P fs (after names s) (names_after of s) (keeps_after P names of s k) w (at + stmt_size s) rest
+    (none_right here behind none))
 
-pub function_checked : (P : Use → Type 0) (names : List Named) (slots : List Slot) (fs : List (List ℕ)) (cores own at : ℕ) (kind : Option Kind)
-    (name : List ℕ) (void_word : Bool) (ps : List Parameter) (body : List PlainStmt) → Keeps P names (record { slots = slots; variables = [] })
+pub function_checked : (P : Use → Type 0) (names : List Named) (slots : List Slot) (fs : List (List ℕ))
+    (cores own at : ℕ) (kind : Option Kind)
+    (name : List ℕ) (void_word : Bool) (ps : List Parameter) (body : List PlainStmt)
+    → Keeps P names (record { slots = slots; variables = [] })
     → IsTrue (has_none (function_faults cores own names at kind name void_word ps body))
     → Do P (resolved_body fs (record { slots = slots; variables = parameter_variables ps }) body)
 function_checked P names slots fs cores own at kind name void_word ps body k none =
     let name_at = at + length (gives_tokens kind) in
     let inner = declared names name (function_means true kind ps) in
-    let within : Within = record { cores = cores; own = own; gives = is_some kind; in_loop = false; outer = length inner } in
+    let within : Within =
+    record { cores = cores; own = own; gives = is_some kind; in_loop = false; outer = length inner } in
     let body_at = name_at + 2 + list_size void_word ps + 2 in
     body_checked P fs (with_parameters inner ps) (record { slots = slots; variables = parameter_variables ps })
     (keeps_parameters P inner slots [] ps
     (keeps_function P names (record { slots = slots; variables = [] }) name (length ps) (is_some kind) true k))
     within body_at body
-    (none_right (parameters_faults (length inner) inner (name_at + 2) ps) (body_faults within (with_parameters inner ps) body_at body)
-    (none_right (named_faults names name_at name ps body) (inner_faults cores own inner name_at kind void_word ps body) none))
+    (none_right (parameters_faults (length inner) inner (name_at + 2) ps)
+    (body_faults within (with_parameters inner ps) body_at body)
+    (none_right (named_faults names name_at name ps body) (inner_faults cores own inner name_at kind void_word ps body)
+    none))

@@ -44,17 +44,20 @@ constant_few n = by (nat_lt n 4096)
 two_cost : (op : SpBinary) (a b : PlainSp) → expr_cost (between_two op a b) ≤ binary_cost op + expr_cost a + expr_cost b
 two_cost op a b = by (is_held op b)
   where
-    by : (held : Bool) → binary_cost op + expr_cost a + (if held then 0 else expr_cost b) ≤ binary_cost op + expr_cost a + expr_cost b
+    by : (held : Bool) → binary_cost op + expr_cost a + (if held then 0 else expr_cost b) ≤ binary_cost op
+        + expr_cost a + expr_cost b
     by true = omega arith
     by false = omega arith
 
 operator_cost : (op : BinaryOp) (u : Bool) → binary_cost (operator_of op u) ≤ operator_weight op
 operator_cost op u = grind arith
 
-between_cost : (op : BinaryOp) (u : Bool) (a b : PlainSp) → expr_cost (resolved_between op u a b) ≤ operator_weight op + expr_cost a + expr_cost b
+between_cost : (op : BinaryOp) (u : Bool) (a b : PlainSp) → expr_cost (resolved_between op u a b) ≤ operator_weight op
+    + expr_cost a + expr_cost b
 between_cost op u a b = by (is_exchanged op)
   where
-    by : (exchanged : Bool) → expr_cost (if exchanged then between_two (operator_of op u) b a else between_two (operator_of op u) a b)
+    by : (exchanged : Bool) → expr_cost (if exchanged then between_two (operator_of op u) b a else between_two
+        (operator_of op u) a b)
         ≤ operator_weight op + expr_cost a + expr_cost b
     by true = omega (arith, two_cost (operator_of op u) b a, operator_cost op u)
     by false = omega (arith, two_cost (operator_of op u) a b, operator_cost op u)
@@ -84,7 +87,8 @@ element_cost scope.nothing index = omega arith
 mutual
   unfolding expr_weight steps_weight
 
-  resolved_cost : (names : Names) (fresh : Option ℕ) (e : PlainExpr) → expr_cost (resolved names fresh e) ≤ expr_weight e
+  resolved_cost : (names : Names) (fresh : Option ℕ) (e : PlainExpr) → expr_cost (resolved names fresh e)
+      ≤ expr_weight e
   resolved_cost names fresh (plain.chain at first rest) =
       let begun = resolved_cost names fresh first in
       let all = steps_cost names fresh (expr_unsigned names first) (resolved names fresh first) rest in
@@ -94,7 +98,12 @@ mutual
   resolved_cost names fresh (plain.number n unsigned) = omega (arith, constant_few n)
   resolved_cost names fresh (plain.name text) = variable_cost fresh (named names text)
   resolved_cost names fresh (plain.element text index) =
-      let inner = resolved_cost names fresh index in omega (arith, inner, element_cost (named names text) (resolved names fresh index))
+      let inner = resolved_cost names fresh index in omega (
+        arith,
+        inner,
+        element_cost (named names text)
+            (resolved names fresh index),
+      )
   resolved_cost names fresh (plain.paren of) = resolved_cost names fresh of
 
   steps_cost : (names : Names) (fresh : Option ℕ) (u : Bool) (a : PlainSp) (steps : PlainSteps)
@@ -104,7 +113,8 @@ mutual
       let v = works_unsigned op u (expr_unsigned names operand) in
       let b = resolved names fresh operand in
       let inner = resolved_cost names fresh operand in
-      let more = steps_cost names fresh (gives_unsigned op u (expr_unsigned names operand)) (resolved_between op v a b) rest in
+      let more = steps_cost names fresh (gives_unsigned op u (expr_unsigned names operand))
+      (resolved_between op v a b) rest in
       omega (arith, inner, more, between_cost op v a b)
 
 resolved_args_cost : (names : Names) (fresh : Option ℕ) (args : List PlainExpr)
@@ -125,7 +135,8 @@ variable_target_cost (level at unsigned) = omega arith
 variable_target_cost (outside slot) = omega arith
 variable_target_cost scope.nothing = omega arith
 
-element_target_cost : (stands : Stands) (index : PlainSp) → given_cost (element_target stands index) ≤ 16 + expr_cost index
+element_target_cost : (stands : Stands) (index : PlainSp) → given_cost (element_target stands index) ≤ 16
+    + expr_cost index
 element_target_cost (level at unsigned) index = omega arith
 element_target_cost (outside slot) index = omega arith
 element_target_cost scope.nothing index = omega arith
@@ -144,11 +155,17 @@ call_cost known p (Some k) args (Some (to_level at)) = omega arith
 call_cost known p (Some k) args (Some (to_cell cell)) = omega arith
 call_cost known p (Some k) args (Some (to_array array index)) = omega arith
 
-right_cost : (fs : List (List ℕ)) (names : Names) (fresh : Option ℕ) (target : Option PlainTarget) (r : PlainRight) (known : Option Start) (p : PartWords)
+right_cost : (fs : List (List ℕ)) (names : Names) (fresh : Option ℕ) (target : Option PlainTarget) (r : PlainRight)
+    (known : Option Start) (p : PartWords)
     → stmts_cost (made known p (resolved_right fs names fresh target r)) ≤ given_cost target + right_weight r
-right_cost fs names fresh target (plain.value e) known p = omega (arith, sets_cost known p target (resolved names fresh e), resolved_cost names fresh e)
+right_cost fs names fresh target (plain.value e) known p =
+    omega (arith, sets_cost known p target (resolved names fresh e), resolved_cost names fresh e)
 right_cost fs names fresh target (plain.call text args) known p =
-    omega (arith, call_cost known p (number_of text fs) (resolved_args names fresh args) target, resolved_args_cost names fresh args)
+    omega (
+      arith,
+      call_cost known p (number_of text fs) (resolved_args names fresh args) target,
+      resolved_args_cost names fresh args,
+    )
 
 -- ---- one action after another
 
@@ -158,20 +175,30 @@ ended_cost true ts = omega arith
 ended_cost false ts = omega arith
 
 -- what comes after them costs no more, whatever is known there
-made_joined_cost : (known : Option Start) (p : PartWords) (xs ys : PlainActions) (most : ℕ) → ((after : Option Start) → stmts_cost (made after p ys) ≤ most)
+made_joined_cost : (known : Option Start) (p : PartWords) (xs ys : PlainActions) (most : ℕ)
+    → ((after : Option Start) → stmts_cost (made after p ys) ≤ most)
     → stmts_cost (made known p (actions.joined xs ys)) ≤ stmts_cost (made known p xs) + most
 made_joined_cost known p no_action ys most each = omega (arith, each known)
-made_joined_cost known p (action a rest) ys most each = by (ends a) (joined_cost (made_action known p a)) (made_joined_cost (start_of a) p rest ys most each)
+made_joined_cost known p (action a rest) ys most each =
+    by (ends a) (joined_cost (made_action known p a)) (made_joined_cost (start_of a) p rest ys most each)
   where
-    by : (ended : Bool) → ((ts : PlainStmts) → stmts_cost (joined (made_action known p a) ts) ≡ stmts_cost (made_action known p a) + stmts_cost ts)
+    by : (ended : Bool) → ((ts : PlainStmts) → stmts_cost (joined (made_action known p a) ts)
+        ≡ stmts_cost (made_action known p a) + stmts_cost ts)
         → stmts_cost (made (start_of a) p (actions.joined rest ys)) ≤ stmts_cost (made (start_of a) p rest) + most
-        → stmts_cost (joined (made_action known p a) (if ended then no_stmt else made (start_of a) p (actions.joined rest ys)))
+        → stmts_cost (joined (made_action known p a) (if ended then no_stmt else made (start_of a) p
+        (actions.joined rest ys)))
         ≤ stmts_cost (joined (made_action known p a) (if ended then no_stmt else made (start_of a) p rest)) + most
     by true first more = omega (arith, first no_stmt)
-    by false first more = omega (arith, more, first (made (start_of a) p (actions.joined rest ys)), first (made (start_of a) p rest))
+    by false first more =
+        omega (arith, more, first (made (start_of a) p (actions.joined rest ys)), first (made (start_of a) p rest))
 
-one_cost : (known : Option Start) (p : PartWords) (a : PlainAction) → stmts_cost (made known p (one a)) ≤ stmts_cost (made_action known p a)
-one_cost known p a = omega (arith, joined_cost (made_action known p a) (if ends a then no_stmt else no_stmt), ended_cost (ends a) no_stmt)
+one_cost : (known : Option Start) (p : PartWords) (a : PlainAction) → stmts_cost (made known p (one a))
+    ≤ stmts_cost (made_action known p a)
+one_cost known p a = omega (
+  arith,
+  joined_cost (made_action known p a) (if ends a then no_stmt else no_stmt),
+  ended_cost (ends a) no_stmt,
+)
 
 -- ---- ways on, and loops
 
@@ -182,12 +209,19 @@ result_cost p e = omega (arith, ended_cost (is_zero e) (tree.one (tree.writes p.
 return_cost : (p : PartWords) (e : PlainSp) → stmts_cost (made_return p e) ≤ 12 + stmts_cost (made_result p e)
 return_cost p e =
     let outer = tree.one (masks p.iteration (returned_loop p)) in
-    let ends_all = stmt (masks p.function (returned_function p)) (if p.function == p.iteration then no_stmt else outer) in
-    omega (arith, joined_cost (made_result p e) ends_all, ended_cost (p.function == p.iteration) outer, by (p.own == p.iteration))
+    let ends_all =
+    stmt (masks p.function (returned_function p)) (if p.function == p.iteration then no_stmt else outer) in
+    omega (
+      arith,
+      joined_cost (made_result p e) ends_all,
+      ended_cost (p.function == p.iteration) outer,
+      by (p.own == p.iteration),
+    )
   where
     by : (alone : Bool)
         → expr_cost (without (frame_word p.function) (if alone then bit_of p.own else frame_word p.own))
-        + expr_cost (if alone then both (frame_word p.iteration) (constant 2) else without (frame_word p.iteration) (frame_word p.own)) ≤ 10
+        + expr_cost (if alone then both (frame_word p.iteration) (constant 2) else without (frame_word p.iteration)
+        (frame_word p.own)) ≤ 10
     by true = omega arith
     by false = omega arith
 
@@ -207,7 +241,8 @@ so_cost mask condition = by (is_truth condition)
     held true = omega arith
     held false = omega arith
 
-    by : (b : Bool) → expr_cost (both (frame_word mask) (if b then condition else not_zero condition)) ≤ 6 + expr_cost condition
+    by : (b : Bool) → expr_cost (both (frame_word mask) (if b then condition else not_zero condition)) ≤ 6
+        + expr_cost condition
     by true = let own = held (is_held binary.BitAnd condition) in omega (arith, own)
     by false = omega arith
 
@@ -223,7 +258,12 @@ behind_cost : (p : PartWords) (exits : Bool) → stmts_cost (made_behind p exits
 behind_cost p false = omega arith
 behind_cost p true =
     let outer = tree.one (masks p.iteration (where_not_returned p)) in
-    omega (arith, joined_cost (if p.function == p.iteration then no_stmt else outer) (made_on p), ended_cost (p.function == p.iteration) outer, on_cost p)
+    omega (
+      arith,
+      joined_cost (if p.function == p.iteration then no_stmt else outer) (made_on p),
+      ended_cost (p.function == p.iteration) outer,
+      on_cost p,
+    )
 
 again_cost : (p : PartWords) (exits : Bool) → stmts_cost (made_again p exits) ≤ 6
 again_cost p true = omega arith
@@ -233,12 +273,15 @@ other_cost : (p : PartWords) (exits : Bool) → expr_cost (if exits then where_n
 other_cost p true = omega arith
 other_cost p false = by (p.own == p.iteration)
   where
-    by : (alone : Bool) → expr_cost (between_two binary.BitXor (if alone then bit_of p.own else frame_word p.own) (frame_word p.free)) ≤ 9
+    by : (alone : Bool) → expr_cost (between_two binary.BitXor (if alone then bit_of p.own else frame_word p.own)
+        (frame_word p.free)) ≤ 9
     by true = omega arith
     by false = omega arith
 
-iteration_cost : (p : PartWords) (condition : PlainSp) (exits : Bool) (body : PlainStmts) (step : Option PlainAssignment)
-    → stmts_cost (made_iteration p condition exits body step) ≤ 13 + expr_cost condition + stmts_cost body + step_cost step
+iteration_cost : (p : PartWords) (condition : PlainSp) (exits : Bool) (body : PlainStmts)
+    (step : Option PlainAssignment)
+    → stmts_cost (made_iteration p condition exits body step) ≤ 13 + expr_cost condition + stmts_cost body
+    + step_cost step
 iteration_cost p condition exits body step =
     omega (
       arith,
@@ -270,9 +313,11 @@ counted_cost p most resumes body step =
     )
 
 -- either way
-iterations_cost : (known : Option Start) (p : PartWords) (most : ℕ) (condition : PlainSp) (body : PlainActions) (step : Option PlainAssignment) (inside : ℕ)
+iterations_cost : (known : Option Start) (p : PartWords) (most : ℕ) (condition : PlainSp) (body : PlainActions)
+    (step : Option PlainAssignment) (inside : ℕ)
     → ((q : PartWords) → stmts_cost (made None q body) ≤ inside)
-    → stmts_cost (made_action known p (iterations most condition body step)) ≤ 47 + 2 * expr_cost condition + inside + step_cost step
+    → stmts_cost (made_action known p (iterations most condition body step)) ≤ 47 + 2 * expr_cost condition + inside
+    + step_cost step
 iterations_cost known p most condition body step inside each = by (is_counted known most condition body step)
   where
     iteration : PlainStmts
@@ -285,7 +330,8 @@ iterations_cost known p most condition body step inside each = by (is_counted kn
     inner = counted_part p resumes
 
     by : (counted : Bool)
-        → stmts_cost (if counted then made_counted p most resumes (made None inner body) step else made_loop p most condition (actions_exit by_return body) iteration)
+        → stmts_cost (if counted then made_counted p most resumes (made None inner body) step else made_loop p most
+        condition (actions_exit by_return body) iteration)
         ≤ 47 + 2 * expr_cost condition + inside + step_cost step
     by true = omega (arith, each inner, counted_cost p most resumes (made None inner body) step)
     by false = omega (
@@ -295,16 +341,19 @@ iterations_cost known p most condition body step inside each = by (is_counted kn
       loop_cost p most condition (actions_exit by_return body) iteration,
     )
 
-assignment_cost : (names : Names) (text : List ℕ) (e : PlainExpr) → step_cost (resolved_assignment names text e) ≤ 7 + expr_weight e
+assignment_cost : (names : Names) (text : List ℕ) (e : PlainExpr) → step_cost (resolved_assignment names text e) ≤ 7
+    + expr_weight e
 assignment_cost names text e = by (variable_target (named names text)) (variable_target_cost (named names text))
   where
-    by : (target : Option PlainTarget) → given_cost target ≤ 7 → step_cost (assignment_to target (resolved names None e)) ≤ 7 + expr_weight e
+    by : (target : Option PlainTarget) → given_cost target ≤ 7
+        → step_cost (assignment_to target (resolved names None e)) ≤ 7 + expr_weight e
     by None within = omega arith
     by (Some target) within = omega (arith, within, resolved_cost names None e)
 
 -- a loop with its masks, its condition twice, and the assignments of a `for`
 head_cost : (names : Names) (head : PlainHead) (known : Option Start) (p : PartWords)
-    → 47 + 2 * expr_cost (resolved_condition names head) + stmts_cost (made known p (maybe_sets (resolved_begin names head)))
+    → 47 + 2 * expr_cost (resolved_condition names head)
+    + stmts_cost (made known p (maybe_sets (resolved_begin names head)))
     + step_cost (resolved_next names head) ≤ head_weight head
 head_cost names (plain.iterations_while condition) known p = omega (arith, resolved_cost names None condition)
 head_cost names (plain.iterations_for first from condition to_set to) known p =
@@ -319,15 +368,18 @@ head_cost names (plain.iterations_for first from condition to_set to) known p =
 
 -- the mask after `continue`
 continued_cost : (p : PartWords) (counted : Bool)
-    → stmts_cost (tree.one (masks p.iteration (if counted then broken p else between_two binary.Plus (frame_word p.iteration) (bit_of p.own)))) ≤ 16
+    → stmts_cost (tree.one (masks p.iteration (if counted then broken p else between_two binary.Plus
+    (frame_word p.iteration) (bit_of p.own)))) ≤ 16
 continued_cost p true = omega arith
 continued_cost p false = omega arith
 
 -- ---- statements
 
-choice_cost : (known : Option Start) (p : PartWords) (condition : PlainSp) (body : PlainActions) (rest : PlainBranches) (otherwise : PlainActions)
+choice_cost : (known : Option Start) (p : PartWords) (condition : PlainSp) (body : PlainActions) (rest : PlainBranches)
+    (otherwise : PlainActions)
     → stmts_cost (made known p (choice (branch condition body rest) otherwise))
-    ≤ stmts_cost (made_branches p (branch condition body rest) (is_no_action otherwise) (λ q. made None q otherwise)) + 6
+    ≤ stmts_cost (made_branches p (branch condition body rest) (is_no_action otherwise) (λ q. made None q otherwise))
+    + 6
 choice_cost known p condition body rest otherwise =
     let all = branch condition body rest in
     let exits = branches_exit any_exit all || actions_exit any_exit otherwise in
@@ -344,7 +396,8 @@ spare plain.no_arm = 0
 spare (plain.arm condition body rest) = 7
 
 arm_cost : (p : PartWords) (condition : PlainSp) (arm : PlainStmts) (exits nothing : Bool) (rest : PlainStmts)
-    → stmts_cost (made_arm p condition arm (made_otherwise p exits nothing rest)) ≤ 17 + expr_cost condition + stmts_cost arm + stmts_cost rest
+    → stmts_cost (made_arm p condition arm (made_otherwise p exits nothing rest)) ≤ 17 + expr_cost condition
+    + stmts_cost arm + stmts_cost rest
 arm_cost p condition arm exits nothing rest =
     omega (
       arith,
@@ -369,20 +422,32 @@ mutual
   stmt_within fs names (plain.set_element text index r) known p =
       let i = resolved names None index in
       let target = element_target (named names text) i in
-      omega (arith, resolved_cost names None index, element_target_cost (named names text) i, right_cost fs names None target r known p)
+      omega (
+        arith,
+        resolved_cost names None index,
+        element_target_cost (named names text) i,
+        right_cost fs names None target r known p,
+      )
   stmt_within fs names (plain.called text args) known p =
-      omega (arith, call_cost known p (number_of text fs) (resolved_args names None args) None, resolved_args_cost names None args)
+      omega (
+        arith,
+        call_cost known p (number_of text fs) (resolved_args names None args) None,
+        resolved_args_cost names None args,
+      )
   stmt_within fs names (plain.sent core core_unsigned source target count) known p =
       omega (arith, resolved_cost names None source, resolved_cost names None target, resolved_cost names None count)
-  stmt_within fs names (plain.chosen plain.no_arm otherwise) known p = omega (arith, otherwise_within fs names otherwise known p)
+  stmt_within fs names (plain.chosen plain.no_arm otherwise) known p =
+      omega (arith, otherwise_within fs names otherwise known p)
   stmt_within fs names (plain.chosen (plain.arm condition body arms) otherwise) known p =
       let rest = resolved_otherwise fs names otherwise in
-      let chosen = arms_within fs names (plain.arm condition body arms) (is_no_action rest) (λ q. made None q rest) (otherwise_weight otherwise)
+      let chosen = arms_within fs names (plain.arm condition body arms) (is_no_action rest) (λ q. made None q rest)
+      (otherwise_weight otherwise)
       (λ q. otherwise_within fs names otherwise None q) p in
       omega (
         arith,
         chosen,
-        choice_cost known p (resolved names None condition) (resolved_block fs names body) (resolved_arms fs names arms) rest,
+        choice_cost known p (resolved names None condition) (resolved_block fs names body)
+            (resolved_arms fs names arms) rest,
       )
   stmt_within fs names (plain.looped bound head body) known p =
       let condition = resolved_condition names head in
@@ -392,28 +457,45 @@ mutual
       omega (
         arith,
         head_cost names head known p,
-        made_joined_cost known p (maybe_sets (resolved_begin names head)) (one loop) (47 + 2 * expr_cost condition + block_weight body + step_cost step)
-            (λ after. omega (arith, one_cost after p loop, iterations_cost after p (most_iterations bound) condition inside step (block_weight body) (λ q. block_within fs names body None q))),
+        made_joined_cost known p (maybe_sets (resolved_begin names head)) (one loop) (47 + 2 * expr_cost condition
+            + block_weight body + step_cost step)
+            (λ after. omega (
+              arith,
+              one_cost after p loop,
+              iterations_cost after p (most_iterations bound) condition
+                  inside step (block_weight body) (λ q. block_within fs names body None q),
+            )),
       )
   stmt_within fs names plain.broken known p = omega arith
   stmt_within fs names plain.continued known p = continued_cost p p.counted
-  stmt_within fs names (plain.returned None) known p = omega (arith, one_cost known p (returns (constant 0)), return_cost p (constant 0))
+  stmt_within fs names (plain.returned None) known p =
+      omega (arith, one_cost known p (returns (constant 0)), return_cost p (constant 0))
   stmt_within fs names (plain.returned (Some e)) known p =
       let given = resolved names None e in
-      omega (arith, resolved_cost names None e, result_cost p given, return_cost p given, one_cost known p (returns given))
+      omega (
+        arith,
+        resolved_cost names None e,
+        result_cost p given,
+        return_cost p given,
+        one_cost known p
+            (returns given),
+      )
   stmt_within fs names (plain.inner body) known p = block_within fs names body known p
 
   block_within : (fs : List (List ℕ)) (names : Names) (body : PlainBlock) (known : Option Start) (p : PartWords)
       → stmts_cost (made known p (resolved_block fs names body)) ≤ block_weight body
   block_within fs names plain.no_stmt known p = omega arith
   block_within fs names (plain.stmt s rest) known p =
-      let more = made_joined_cost known p (resolved_stmt fs names s) (resolved_block fs (names_after names s) rest) (block_weight rest)
+      let more = made_joined_cost known p (resolved_stmt fs names s) (resolved_block fs (names_after names s) rest)
+      (block_weight rest)
       (λ after. block_within fs (names_after names s) rest after p) in
       omega (arith, more, stmt_within fs names s known p)
 
-  arms_within : (fs : List (List ℕ)) (names : Names) (arms : PlainArms) (nothing : Bool) (otherwise : PartWords → PlainStmts) (weight : ℕ)
+  arms_within : (fs : List (List ℕ)) (names : Names) (arms : PlainArms) (nothing : Bool)
+      (otherwise : PartWords → PlainStmts) (weight : ℕ)
       → ((q : PartWords) → stmts_cost (otherwise q) ≤ weight) → (p : PartWords)
-      → stmts_cost (made_branches p (resolved_arms fs names arms) nothing otherwise) + spare arms ≤ arms_weight arms + weight
+      → stmts_cost (made_branches p (resolved_arms fs names arms) nothing otherwise) + spare arms
+      ≤ arms_weight arms + weight
   arms_within fs names plain.no_arm nothing otherwise weight each p = omega (arith, each p)
   arms_within fs names (plain.arm condition body rest) nothing otherwise weight each p =
       let test = resolved names None condition in
@@ -426,10 +508,12 @@ mutual
         inside,
         more,
         resolved_cost names None condition,
-        arm_cost p test arm (actions_exit any_exit (resolved_block fs names body)) (is_no_branch others && nothing) (made_branches (in_arm p) others nothing otherwise),
+        arm_cost p test arm (actions_exit any_exit (resolved_block fs names body)) (is_no_branch others && nothing)
+            (made_branches (in_arm p) others nothing otherwise),
       )
 
-  otherwise_within : (fs : List (List ℕ)) (names : Names) (otherwise : PlainOtherwise) (known : Option Start) (p : PartWords)
+  otherwise_within : (fs : List (List ℕ)) (names : Names) (otherwise : PlainOtherwise) (known : Option Start)
+      (p : PartWords)
       → stmts_cost (made known p (resolved_otherwise fs names otherwise)) ≤ otherwise_weight otherwise
   otherwise_within fs names plain.no_else known p = omega arith
   otherwise_within fs names (plain.or_else body) known p = block_within fs names body known p
@@ -444,7 +528,8 @@ body_within fs names (s ∷ rest) known p =
       arith,
       stmt_within fs names s known p,
       sum_by-cons stmt_weight s rest,
-      made_joined_cost known p (resolved_stmt fs names s) (resolved_body fs (names_after names s) rest) (body_weight rest)
+      made_joined_cost known p (resolved_stmt fs names s) (resolved_body fs (names_after names s) rest)
+          (body_weight rest)
           (λ after. body_within fs (names_after names s) rest after p),
     )
 

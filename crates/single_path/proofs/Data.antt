@@ -15,7 +15,8 @@ use Rattle.single_path.specs.Single.{with_calls}
 use Rattle.single_path.proofs.Ends.{ends_of}
 use Rattle.single_path.proofs.Formed.{as_many, made_length}
 
-pub data_is_formed : (cores own : ℕ) (items : List PlainItem) → IsValid items cores own → data_formed (with_calls items) ≡ true
+pub data_is_formed : (cores own : ℕ) (items : List PlainItem) → IsValid items cores own → data_formed (with_calls items)
+    ≡ true
 data_is_formed cores own items valid =
     let input = input_within 4 items (omega arith) in
     let private = private_fits cores own items valid in
@@ -25,7 +26,8 @@ data_is_formed cores own items valid =
 
 -- ---- each function weighs at least 64
 
-functions_weigh : (slots : List Slot) (fs : List (List ℕ)) (items : List PlainItem) → 64 * length (resolved_items slots fs items) ≤ items_weight items
+functions_weigh : (slots : List Slot) (fs : List (List ℕ)) (items : List PlainItem)
+    → 64 * length (resolved_items slots fs items) ≤ items_weight items
 functions_weigh slots fs [] = omega arith
 functions_weigh slots fs (global g ∷ items) =
     let rest = functions_weigh slots fs items in omega (arith, rest, sum_by-cons item_weight (global g) items)
@@ -33,7 +35,8 @@ functions_weigh slots fs (function kind text void_word parameters body ∷ items
     let rest = functions_weigh slots (fs ++ text ∷ []) items in
     omega (arith, rest, sum_by-cons item_weight (function kind text void_word parameters body) items)
 
-pub functions_are_few : (cores own : ℕ) (items : List PlainItem) → IsValid items cores own → length (with_calls items).functions ≤ 512
+pub functions_are_few : (cores own : ℕ) (items : List PlainItem) → IsValid items cores own
+    → length (with_calls items).functions ≤ 512
 functions_are_few cores own items valid =
     let bodies = resolved_items (layout_of items) [] items in
     let same = as_many (layout_of items) [] items in

@@ -1,4 +1,5 @@
--- What the end of a valid program says of the whole: how much it weighs, how many words it has, and that `main` is there.
+-- What the end of a valid program says of the whole: how much it weighs, how many words it has, and that `main` is
+-- there.
 use Rattle.std.proofs.Common.{◌≡◌, ℕ, ◌≤◌, true, false, List, ◌++◌, arith}
 use Rattle.std.specs.Prelude.{IsTrue, not, nat_lt, sum_by}
 use Rattle.std.proofs.lemmas.Bool.{not-false}
@@ -29,13 +30,16 @@ ends_of cores own items valid =
     let ends = none_right (items_faults cores own given 0 items) (end_faults at items) valid in
     let behind = none_right heavy (data_ ++ (scratch ++ no_main)) ends in
     let last = none_right data_ (scratch ++ no_main) behind in
-    let light = not_so (nat_lt 32768 (items_weight items)) at fault.Heavy (none_left heavy (data_ ++ (scratch ++ no_main)) ends) in
-    let few = not_so (nat_lt 49148 (words_in false items)) at fault.Data (none_left data_ (scratch ++ no_main) behind) in
+    let light = not_so (nat_lt 32768 (items_weight items)) at fault.Heavy
+    (none_left heavy (data_ ++ (scratch ++ no_main)) ends) in
+    let few = not_so (nat_lt 49148 (words_in false items)) at fault.Data
+    (none_left data_ (scratch ++ no_main) behind) in
     let fits = not_so (nat_lt 2048 (words_in true items)) at fault.Scratch (none_left scratch no_main last) in
     record {
       each = none_left (items_faults cores own given 0 items) (end_faults at items) valid;
       light = grind (arith, nat_tests, light);
       private = grind (arith, nat_tests, few);
       scratch = grind (arith, nat_tests, fits);
-      main = not-false (has_main items) (not_so (not (has_main items)) at fault.NoMain (none_right scratch no_main last));
+      main = not-false (has_main items) (not_so (not (has_main items)) at fault.NoMain
+          (none_right scratch no_main last));
     }

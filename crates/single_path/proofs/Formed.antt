@@ -53,13 +53,15 @@ given_known counts =
 
 pub functions_fit : (cores own : ℕ) (items : List PlainItem) → IsValid items cores own → (k : ℕ)
     → k < length (resolved_items (layout_of items) [] items)
-    → Fits (Callable (parameters_in items) k) false (slice_index_or (resolved_items (layout_of items) [] items) k no_action)
+    → Fits (Callable (parameters_in items) k) false (slice_index_or (resolved_items (layout_of items) [] items) k
+    no_action)
 functions_fit cores own items valid k within =
     let counts = parameters_in items in
     let bodies = resolved_items (layout_of items) [] items in
     let none_before : 0 + k ≡ k = omega arith in
     subst (λ n. Fits (Callable counts n) false (slice_index_or bodies k no_action)) none_before
-    (items_fit given [] [] counts (given_known counts) cores own 0 (layout_of items) items refl refl (ends_of cores own items valid).each k within)
+    (items_fit given [] [] counts (given_known counts) cores own 0 (layout_of items) items refl refl
+    (ends_of cores own items valid).each k within)
 
 -- ---- and they are sound
 
@@ -87,16 +89,23 @@ named_small names at text parameters body none =
     (none_left wide heavy (none_right many (wide ++ heavy) behind)) in
     let light = not_so (nat_lt 4096 (function_weight body)) at fault.Heavy
     (none_right wide heavy (none_right many (wide ++ heavy) behind)) in
-    record { few = grind (arith, nat_tests, few); frame = grind (arith, nat_tests, narrow); heavy = grind (arith, nat_tests, light) }
+    record {
+      few = grind (arith, nat_tests, few);
+      frame = grind (arith, nat_tests, narrow);
+      heavy = grind (arith, nat_tests, light);
+    }
 
-function_sound : (slots : List Slot) → Each SlotFits slots → (fs : List (List ℕ)) (cores own : ℕ) → cores ≤ 16 → (names : List Named) (at : ℕ)
+function_sound : (slots : List Slot) → Each SlotFits slots → (fs : List (List ℕ)) (cores own : ℕ) → cores ≤ 16
+    → (names : List Named) (at : ℕ)
     (kind : Option Kind) (text : List ℕ) (void_word : Bool) (parameters : List Parameter) (body : List PlainStmt)
     → IsTrue (has_none (function_faults cores own names at kind text void_word parameters body))
-    → FunctionSound (length parameters) (resolved_body fs (record { slots = slots; variables = parameter_variables parameters }) body)
+    → FunctionSound (length parameters) (resolved_body fs
+    (record { slots = slots; variables = parameter_variables parameters }) body)
 function_sound slots each fs cores own few names at kind text void_word parameters body none =
     let name_at = at + length (gives_tokens kind) in
     let inner = declared names text (function_means true kind parameters) in
-    let within : Within = record { cores = cores; own = own; gives = is_some kind; in_loop = false; outer = length inner } in
+    let within : Within =
+    record { cores = cores; own = own; gives = is_some kind; in_loop = false; outer = length inner } in
     let body_at = name_at + 2 + list_size void_word parameters + 2 in
     let heads = named_faults names name_at text parameters body in
     let inside = inner_faults cores own inner name_at kind void_word parameters body in
@@ -105,25 +114,31 @@ function_sound slots each fs cores own few names at kind text void_word paramete
     record {
       few = small.few;
       frame = omega (arith, small.frame, frame_within fs slots parameters body);
-      sound = body_sound (record { slots = slots; variables = parameter_variables parameters }) each fs within few open_names body_at body
-          (none_right (parameters_faults (length inner) inner (name_at + 2) parameters) (body_faults within open_names body_at body)
+      sound = body_sound (record { slots = slots; variables = parameter_variables parameters }) each fs within few
+          open_names body_at body
+          (none_right (parameters_faults (length inner) inner (name_at + 2) parameters)
+          (body_faults within open_names body_at body)
           (none_right heads inside none));
     }
 
-items_sound : (slots : List Slot) → Each SlotFits slots → (fs : List (List ℕ)) (cores own : ℕ) → cores ≤ 16 → (names : List Named) (at : ℕ)
-    (items : List PlainItem) → IsTrue (has_none (items_faults cores own names at items)) → (k : ℕ) → k < length (resolved_items slots fs items)
+items_sound : (slots : List Slot) → Each SlotFits slots → (fs : List (List ℕ)) (cores own : ℕ) → cores ≤ 16
+    → (names : List Named) (at : ℕ)
+    (items : List PlainItem) → IsTrue (has_none (items_faults cores own names at items)) → (k : ℕ)
+    → k < length (resolved_items slots fs items)
     → FunctionSound (slice_index (parameters_in items) k) (slice_index_or (resolved_items slots fs items) k no_action)
 items_sound slots each fs cores own few names at [] none k within = absurd (omega (arith, within))
 items_sound slots each fs cores own few names at (global g ∷ items) none k within =
     let behind = items_faults cores own (with_item names (global g)) (at + item_size (global g)) items in
     items_sound slots each fs cores own few (with_item names (global g)) (at + item_size (global g)) items
     (none_right (item_faults cores own names at (global g)) behind none) k within
-items_sound slots each fs cores own few names at (function kind text void_word parameters body ∷ items) none zero within =
+items_sound slots each fs cores own few names at (function kind text void_word parameters body ∷ items)
+    none zero within =
     let f = function kind text void_word parameters body in
     let behind = items_faults cores own (with_item names f) (at + item_size f) items in
     function_sound slots each fs cores own few names at kind text void_word parameters body
     (none_left (item_faults cores own names at f) behind none)
-items_sound slots each fs cores own few names at (function kind text void_word parameters body ∷ items) none (suc k) within =
+items_sound slots each fs cores own few names at (function kind text void_word parameters body ∷ items) none
+    (suc k) within =
     let f = function kind text void_word parameters body in
     let behind = items_faults cores own (with_item names f) (at + item_size f) items in
     items_sound slots each (fs ++ text ∷ []) cores own few (with_item names f) (at + item_size f) items
@@ -148,26 +163,32 @@ function_made_formed Fit fs number each parameters body fits known =
     (and_from _ _ (lt-ltb p.result (slots_of f) (omega (arith, within)))
     (more_formed fs number (slots_of f) (masks p.function (begun_mask p)) (made None p body)
     (begun_formed fs number (slots_of f) p (below n (slots_of f) p (outermost_order n) within))
-    (made_formed Fit fs number (slots_of f) n each body false None p (outermost_order n) (omega arith) (omega (arith, slots)) fits known.sound)))))))
+    (made_formed Fit fs number (slots_of f) n each body false None p (outermost_order n) (omega arith)
+    (omega (arith, slots)) fits known.sound)))))))
 
 -- an earlier function is there, and has as many parameters as it is given arguments
-callable_formed : (counts : List ℕ) (bodies : List PlainActions) (n : ℕ) → length counts ≡ length bodies → n ≤ length bodies
+callable_formed : (counts : List ℕ) (bodies : List PlainActions) (n : ℕ) → length counts ≡ length bodies
+    → n ≤ length bodies
     → MayCall (Callable counts n) (made_functions counts bodies) n
 callable_formed counts bodies n same within k args call =
     and_from _ _ (lt-ltb k n call.0)
     (eq-eqb args (slice_index_or (made_functions counts bodies) k no_function).parameters
-    (call.1 ∙ sym (ap (λ f. f.parameters) (made_at counts bodies k (omega (arith, call.0, within, same)) (omega (arith, call.0, within))))))
+    (call.1 ∙ sym (ap (λ f. f.parameters) (made_at counts bodies k (omega (arith, call.0, within, same))
+    (omega (arith, call.0, within))))))
 
 all_formed : (counts : List ℕ) (bodies : List PlainActions) → length counts ≡ length bodies
     → ((k : ℕ) → k < length bodies → Fits (Callable counts k) false (slice_index_or bodies k no_action))
-    → ((k : ℕ) → k < length bodies → FunctionSound (slice_index counts k) (slice_index_or bodies k no_action)) → (n : ℕ) → n ≤ length bodies
+    → ((k : ℕ) → k < length bodies → FunctionSound (slice_index counts k) (slice_index_or bodies k no_action)) → (n : ℕ)
+    → n ≤ length bodies
     → functions_formed (made_functions counts bodies) n ≡ true
 all_formed counts bodies same fits sound zero within = refl
 all_formed counts bodies same fits sound (suc n) within =
     and_from _ _ (all_formed counts bodies same fits sound n (omega (arith, within)))
-    (ap (function_formed (made_functions counts bodies) n) (made_at counts bodies n (omega (arith, within, same)) (omega (arith, within)))
+    (ap (function_formed (made_functions counts bodies) n) (made_at counts bodies n (omega (arith, within, same))
+    (omega (arith, within)))
     ∙ function_made_formed (Callable counts n) (made_functions counts bodies) n
-    (callable_formed counts bodies n same (omega (arith, within))) (slice_index counts n) (slice_index_or bodies n no_action)
+    (callable_formed counts bodies n same (omega (arith, within))) (slice_index counts n)
+    (slice_index_or bodies n no_action)
     (fits n (omega (arith, within))) (sound n (omega (arith, within))))
 
 -- ---- a whole program
@@ -193,19 +214,24 @@ functions_are_formed cores own items few valid =
     let bodies = resolved_items (layout_of items) [] items in
     let same = as_many (layout_of items) [] items in
     all_formed counts bodies same (functions_fit cores own items valid)
-    (items_sound (layout_of items) (layout_fits cores own items valid) [] cores own few given 0 items (ends_of cores own items valid).each)
+    (items_sound (layout_of items) (layout_fits cores own items valid) [] cores own few given 0 items
+    (ends_of cores own items valid).each)
     (length (made_functions counts bodies)) (omega (arith, made_length counts bodies same))
 
 -- the frame of each function of a valid program
 pub frames_small : (cores own : ℕ) (items : List PlainItem) → cores ≤ 16 → IsValid items cores own → (k : ℕ)
     → k < length (resolved_items (layout_of items) [] items)
-    → (made_function (slice_index (parameters_in items) k) (slice_index_or (resolved_items (layout_of items) [] items) k no_action)).frame ≤ 120
+    → (made_function (slice_index (parameters_in items) k) (slice_index_or (resolved_items (layout_of items) [] items) k
+    no_action)).frame ≤ 120
 frames_small cores own items few valid k within =
-    (items_sound (layout_of items) (layout_fits cores own items valid) [] cores own few given 0 items (ends_of cores own items valid).each k within).frame
+    (items_sound (layout_of items) (layout_fits cores own items valid) [] cores own few given 0 items
+    (ends_of cores own items valid).each k within).frame
 
 -- the same of parameters and actions that were found to be those of the program
-pub frames_fit : (cores own : ℕ) (items : List PlainItem) → cores ≤ 16 → IsValid items cores own → (slots : List Slot) (counts : List ℕ)
-    (bodies : List PlainActions) → slots ≡ layout_of items → counts ≡ parameters_in items → bodies ≡ resolved_items slots [] items → (k : ℕ)
+pub frames_fit : (cores own : ℕ) (items : List PlainItem) → cores ≤ 16 → IsValid items cores own → (slots : List Slot)
+    (counts : List ℕ)
+    (bodies : List PlainActions) → slots ≡ layout_of items → counts ≡ parameters_in items → bodies
+    ≡ resolved_items slots [] items → (k : ℕ)
     → k < length bodies → (made_function (slice_index counts k) (slice_index_or bodies k no_action)).frame < 2 ^ 32
 frames_fit cores own items few valid slots counts bodies laid counted resolved k within =
     let same = resolved ∙ ap (λ l. resolved_items l [] items) laid in

@@ -12,7 +12,8 @@ put_here x y f = ap (λ b. cond b y (f x)) (eq-eqb x x refl)
 pub put_there : (x y u : ℕ) (f : ℕ → ℕ) → x ≢ u → put x y f u ≡ f u
 put_there x y u f other = ap (λ b. cond b y (f u)) (ne_eqb x u other)
 
--- after the words of so many variables stand the result, the masks from outer to inner ones, and the words that are free
+-- after the words of so many variables stand the result, the masks from outer to inner ones, and the words that are
+-- free
 pub record Order (n : ℕ) (p : PartWords) : Type 0 where
   pub result : n ≤ p.result
   pub function : p.result < p.function
@@ -35,8 +36,9 @@ pub fewer : (n k : ℕ) (s t : State) → k ≤ n → Still n s t → Still k s 
 fewer n k s t within h = record { frame = λ x below. h.frame x (omega (arith, below, within)); world = h.world }
 
 -- a word that is set after them
-pub set_behind : (n slot v : ℕ) (s : State) → n ≤ slot → Still n s (with_slot slot v s)
-set_behind n slot v s behind = record { frame = λ x below. put_there slot v x s.frame (omega (arith, below, behind)); world = refl }
+pub set_after : (n slot v : ℕ) (s : State) → n ≤ slot → Still n s (with_slot slot v s)
+set_after n slot v s behind =
+    record { frame = λ x below. put_there slot v x s.frame (omega (arith, below, behind)); world = refl }
 
 -- a word that is set to what it was
 pub set_same : (n slot v : ℕ) (s : State) → v ≡ s.frame slot → Still n s (with_slot slot v s)
@@ -47,8 +49,10 @@ set_same n slot v s same = record { frame = λ x below. by x (cases_eq slot x); 
     by x (inr there) = put_there slot v x s.frame there
 
 -- so many iterations of which each leaves them
-pub iterations_still : (n : ℕ) (change : State → State) (Kept : State → Type 0) → ((s : State) → Kept s → Still n s (change s))
+pub iterations_still : (n : ℕ) (change : State → State) (Kept : State → Type 0)
+    → ((s : State) → Kept s → Still n s (change s))
     → ((s : State) → Kept s → Kept (change s)) → (k : ℕ) (s : State) → Kept s → Still n s (times k change s)
 iterations_still n change Kept each on zero s kept = still_here n s
 iterations_still n change Kept each on (suc k) s kept =
-    still_on n s (change s) (times k change (change s)) (each s kept) (iterations_still n change Kept each on k (change s) (on s kept))
+    still_on n s (change s) (times k change (change s)) (each s kept) (iterations_still n change Kept each on k
+    (change s) (on s kept))

@@ -33,15 +33,20 @@ use Rattle.single_path.proofs.Words.{resolved_words, resolved_args_words, variab
 
 -- ---- what is counted
 
--- For actions that stand where so many variables are open, and for the words that they are made with: their words after those
--- variables, their masks but one, and their levels of iterations are together so many at most. (The one mask may be that of what a
--- function gives to a target outside of the frame, for which nothing is counted.) It is so whatever is known before them.
+-- For actions that stand where so many variables are open, and for the words that they are made with: their words
+-- after those
+-- variables, their masks but one, and their levels of iterations are together so many at most. (The one mask may be
+-- that of what a
+-- function gives to a target outside of the frame, for which nothing is counted.) It is so whatever is known before
+-- them.
 abbrev Within : ℕ → PlainActions → PartWords → ℕ → Type 0
-Within n xs p room = (known : Option Start) → words xs - n + (width.masks xs - 1) + stmts_levels (made known p xs) ≤ room
+Within n xs p room =
+    (known : Option Start) → words xs - n + (width.masks xs - 1) + stmts_levels (made known p xs) ≤ room
 
 -- the same, where more variables are open after the actions than before
 abbrev Opens : ℕ → ℕ → PlainActions → PartWords → ℕ → Type 0
-Opens before after xs p room = (known : Option Start) → after + (words xs - after + (width.masks xs - 1) + stmts_levels (made known p xs)) ≤ before + room
+Opens before after xs p room = (known : Option Start) → after + (words xs - after + (width.masks xs - 1)
+    + stmts_levels (made known p xs)) ≤ before + room
 
 -- ---- one action after another
 
@@ -58,20 +63,31 @@ ended_levels true ts = omega arith
 ended_levels false ts = omega arith
 
 -- what comes after them has no more levels, whatever is known there
-levels_joined : (known : Option Start) (p : PartWords) (xs ys : PlainActions) (most : ℕ) → ((after : Option Start) → stmts_levels (made after p ys) ≤ most)
+levels_joined : (known : Option Start) (p : PartWords) (xs ys : PlainActions) (most : ℕ)
+    → ((after : Option Start) → stmts_levels (made after p ys) ≤ most)
     → stmts_levels (made known p (actions.joined xs ys)) ≤ max (stmts_levels (made known p xs)) most
 levels_joined known p no_action ys most each = omega (arith, each known)
-levels_joined known p (action a rest) ys most each = by (ends a) (joined_levels (made_action known p a)) (levels_joined (start_of a) p rest ys most each)
+levels_joined known p (action a rest) ys most each =
+    by (ends a) (joined_levels (made_action known p a)) (levels_joined (start_of a) p rest ys most each)
   where
-    by : (ended : Bool) → ((ts : PlainStmts) → stmts_levels (joined (made_action known p a) ts) ≡ max (stmts_levels (made_action known p a)) (stmts_levels ts))
-        → stmts_levels (made (start_of a) p (actions.joined rest ys)) ≤ max (stmts_levels (made (start_of a) p rest)) most
-        → stmts_levels (joined (made_action known p a) (if ended then no_stmt else made (start_of a) p (actions.joined rest ys)))
+    by : (ended : Bool) → ((ts : PlainStmts) → stmts_levels (joined (made_action known p a) ts)
+        ≡ max (stmts_levels (made_action known p a)) (stmts_levels ts))
+        → stmts_levels (made (start_of a) p (actions.joined rest ys))
+        ≤ max (stmts_levels (made (start_of a) p rest)) most
+        → stmts_levels (joined (made_action known p a) (if ended then no_stmt else made (start_of a) p
+        (actions.joined rest ys)))
         ≤ max (stmts_levels (joined (made_action known p a) (if ended then no_stmt else made (start_of a) p rest))) most
     by true first more = omega (arith, first no_stmt)
-    by false first more = omega (arith, more, first (made (start_of a) p (actions.joined rest ys)), first (made (start_of a) p rest))
+    by false first more =
+        omega (arith, more, first (made (start_of a) p (actions.joined rest ys)), first (made (start_of a) p rest))
 
-levels_one : (known : Option Start) (p : PartWords) (a : PlainAction) → stmts_levels (made known p (one a)) ≤ stmts_levels (made_action known p a)
-levels_one known p a = omega (arith, joined_levels (made_action known p a) (if ends a then no_stmt else no_stmt), ended_levels (ends a) no_stmt)
+levels_one : (known : Option Start) (p : PartWords) (a : PlainAction) → stmts_levels (made known p (one a))
+    ≤ stmts_levels (made_action known p a)
+levels_one known p a = omega (
+  arith,
+  joined_levels (made_action known p a) (if ends a then no_stmt else no_stmt),
+  ended_levels (ends a) no_stmt,
+)
 
 choice_words : (branches : PlainBranches) (otherwise : PlainActions)
     → words (choice branches otherwise) ≤ max (branches_words branches) (words otherwise)
@@ -95,14 +111,20 @@ behind_levels : (p : PartWords) (exits : Bool) → stmts_levels (made_behind p e
 behind_levels p false = omega arith
 behind_levels p true =
     let outer = tree.one (masks p.iteration (where_not_returned p)) in
-    omega (arith, joined_levels (if p.function == p.iteration then no_stmt else outer) (made_on p), ended_levels (p.function == p.iteration) outer, on_levels p)
+    omega (
+      arith,
+      joined_levels (if p.function == p.iteration then no_stmt else outer) (made_on p),
+      ended_levels (p.function == p.iteration) outer,
+      on_levels p,
+    )
 
 again_levels : (p : PartWords) (exits : Bool) → stmts_levels (made_again p exits) ≤ 0
 again_levels p true = omega arith
 again_levels p false = omega arith
 
 -- a choice has the levels of its arms and of what stands after `else`
-choice_levels : (known : Option Start) (p : PartWords) (condition : PlainSp) (body : PlainActions) (rest : PlainBranches) (otherwise : PlainActions)
+choice_levels : (known : Option Start) (p : PartWords) (condition : PlainSp) (body : PlainActions)
+    (rest : PlainBranches) (otherwise : PlainActions)
     → stmts_levels (made known p (choice (branch condition body rest) otherwise))
     ≤ stmts_levels (made_branches p (branch condition body rest) (is_no_action otherwise) (λ q. made None q otherwise))
 choice_levels known p condition body rest otherwise =
@@ -116,7 +138,8 @@ choice_levels known p condition body rest otherwise =
     )
 
 -- the first may open variables, each of which takes a word
-joined_within : (before after first more : ℕ) (xs ys : PlainActions) (p : PartWords) → before ≤ after → Opens before after xs p first
+joined_within : (before after first more : ℕ) (xs ys : PlainActions) (p : PartWords) → before ≤ after
+    → Opens before after xs p first
     → Within after ys p more → Within before (actions.joined xs ys) p (first + more)
 joined_within before after first more xs ys p opens here there known =
     let taken = words ys - after + (width.masks ys - 1) in
@@ -127,14 +150,16 @@ joined_within before after first more xs ys p opens here there known =
 
 -- ---- what is set, and calls
 
-sets_within : (n : ℕ) (p : PartWords) (target : Option PlainTarget) (e : PlainSp) → result_words target ≤ n → expr_words e ≤ n
+sets_within : (n : ℕ) (p : PartWords) (target : Option PlainTarget) (e : PlainSp) → result_words target ≤ n
+    → expr_words e ≤ n
     → Within n (maybe_sets (assignment_to target e)) p 0
 sets_within n p None e of to known = omega arith
 sets_within n p (Some (to_level at)) e of to known = omega (arith, of, to)
 sets_within n p (Some (to_cell cell)) e of to known = omega (arith, to)
 sets_within n p (Some (to_array array index)) e of to known = omega (arith, of, to)
 
-call_within : (n : ℕ) (p : PartWords) (k : Option ℕ) (args : List PlainSp) (target : Option PlainTarget) → result_words target ≤ n
+call_within : (n : ℕ) (p : PartWords) (k : Option ℕ) (args : List PlainSp) (target : Option PlainTarget)
+    → result_words target ≤ n
     → args_words args ≤ n → Within n (numbered_call k args target) p 0
 call_within n p None args target of to known = sets_within n p target (constant 0) of (omega arith) known
 call_within n p (Some k) args None of to known = omega (arith, to)
@@ -142,19 +167,23 @@ call_within n p (Some k) args (Some (to_level at)) of to known = omega (arith, o
 call_within n p (Some k) args (Some (to_cell cell)) of to known = omega (arith, to)
 call_within n p (Some k) args (Some (to_array array index)) of to known = omega (arith, of, to)
 
-right_within : (fs : List (List ℕ)) (names : Names) (fresh : Option ℕ) (target : Option PlainTarget) (r : PlainRight) (p : PartWords)
-    → result_words target ≤ length names.variables → Within (length names.variables) (resolved_right fs names fresh target r) p 0
+right_within : (fs : List (List ℕ)) (names : Names) (fresh : Option ℕ) (target : Option PlainTarget) (r : PlainRight)
+    (p : PartWords)
+    → result_words target ≤ length names.variables → Within (length names.variables) (resolved_right fs names
+    fresh target r) p 0
 right_within fs names fresh target (plain.value e) p of known =
     sets_within (length names.variables) p target (resolved names fresh e) of (resolved_words names fresh e) known
 right_within fs names fresh target (plain.call text args) p of known =
-    call_within (length names.variables) p (number_of text fs) (resolved_args names fresh args) target of (resolved_args_words names fresh args) known
+    call_within (length names.variables) p (number_of text fs) (resolved_args names fresh args) target of
+    (resolved_args_words names fresh args) known
 
 -- ---- ways on, and loops
 
 return_levels : (p : PartWords) (e : PlainSp) → stmts_levels (made_return p e) ≤ 0
 return_levels p e =
     let outer = tree.one (masks p.iteration (returned_loop p)) in
-    let ends_all = stmt (masks p.function (returned_function p)) (if p.function == p.iteration then no_stmt else outer) in
+    let ends_all =
+    stmt (masks p.function (returned_function p)) (if p.function == p.iteration then no_stmt else outer) in
     let set = ended_levels (is_zero e) (tree.one (tree.writes p.own (tree.to_slot p.result) e)) in
     omega (arith, joined_levels (made_result p e) ends_all, set, ended_levels (p.function == p.iteration) outer)
 
@@ -165,7 +194,8 @@ step_levels : (mask : ℕ) (step : Option PlainAssignment) → stmts_levels (mad
 step_levels mask None = omega arith
 step_levels mask (Some a) = omega arith
 
-iteration_levels : (p : PartWords) (condition : PlainSp) (exits : Bool) (body : PlainStmts) (step : Option PlainAssignment)
+iteration_levels : (p : PartWords) (condition : PlainSp) (exits : Bool) (body : PlainStmts)
+    (step : Option PlainAssignment)
     → stmts_levels (made_iteration p condition exits body step) ≤ stmts_levels body
 iteration_levels p condition exits body step =
     omega (
@@ -196,8 +226,10 @@ counted_levels p most resumes body step =
       step_levels p.own step,
     )
 
-iterations_levels : (known : Option Start) (p : PartWords) (most : ℕ) (condition : PlainSp) (body : PlainActions) (step : Option PlainAssignment) (inside : ℕ)
-    → ((q : PartWords) → stmts_levels (made None q body) ≤ inside) → stmts_levels (made_action known p (iterations most condition body step)) ≤ 1 + inside
+iterations_levels : (known : Option Start) (p : PartWords) (most : ℕ) (condition : PlainSp) (body : PlainActions)
+    (step : Option PlainAssignment) (inside : ℕ)
+    → ((q : PartWords) → stmts_levels (made None q body) ≤ inside)
+    → stmts_levels (made_action known p (iterations most condition body step)) ≤ 1 + inside
 iterations_levels known p most condition body step inside each = by (is_counted known most condition body step)
   where
     iteration : PlainStmts
@@ -210,7 +242,8 @@ iterations_levels known p most condition body step inside each = by (is_counted 
     inner = counted_part p resumes
 
     by : (counted : Bool)
-        → stmts_levels (if counted then made_counted p most resumes (made None inner body) step else made_loop p most condition (actions_exit by_return body) iteration) ≤ 1 + inside
+        → stmts_levels (if counted then made_counted p most resumes (made None inner body) step else made_loop p most
+        condition (actions_exit by_return body) iteration) ≤ 1 + inside
     by true = omega (arith, each inner, counted_levels p most resumes (made None inner body) step)
     by false = omega (
       arith,
@@ -224,28 +257,43 @@ loop_takes zero body = omega arith
 loop_takes (suc n) body = omega arith
 
 -- a loop takes a word for its mask and one for its iterations
-iterations_within : (n room : ℕ) (p : PartWords) (most : ℕ) (condition : PlainSp) (body : PlainActions) (step : Option PlainAssignment)
+iterations_within : (n room : ℕ) (p : PartWords) (most : ℕ) (condition : PlainSp) (body : PlainActions)
+    (step : Option PlainAssignment)
     → expr_words condition ≤ n → step_words step ≤ n → ((q : PartWords) → Within n body q room)
     → Within n (one (iterations most condition body step)) p (2 + room)
 iterations_within n room p most condition body step of to within known =
     let taken = words body - n + (width.masks body - 1) in
-    let levels = iterations_levels known p most condition body step (room - taken) (λ q. let one = within q None in omega (arith, one)) in
+    let levels = iterations_levels known p most condition body step (room - taken) (λ q. let one = within q None in
+    omega (arith, one)) in
     let one = within p None in
-    omega (arith, of, to, one, levels, levels_one known p (iterations most condition body step), loop_takes most (width.masks body))
+    omega (
+      arith,
+      of,
+      to,
+      one,
+      levels,
+      levels_one known p (iterations most condition body step),
+      loop_takes most
+          (width.masks body),
+    )
 
-condition_words : (names : Names) (head : PlainHead) → expr_words (resolved_condition names head) ≤ length names.variables
+condition_words : (names : Names) (head : PlainHead) → expr_words (resolved_condition names head)
+    ≤ length names.variables
 condition_words names (plain.iterations_while condition) = resolved_words names None condition
 condition_words names (plain.iterations_for first from condition to_set to) = resolved_words names None condition
 
-begin_within : (names : Names) (head : PlainHead) (p : PartWords) → Within (length names.variables) (maybe_sets (resolved_begin names head)) p 0
+begin_within : (names : Names) (head : PlainHead) (p : PartWords) → Within (length names.variables) (maybe_sets
+    (resolved_begin names head)) p 0
 begin_within names (plain.iterations_while condition) p known = omega arith
 begin_within names (plain.iterations_for first from condition to_set to) p known =
-    sets_within (length names.variables) p (variable_target (named names first)) (resolved names None from) (variable_target_words names first)
+    sets_within (length names.variables) p (variable_target (named names first)) (resolved names None from)
+    (variable_target_words names first)
     (resolved_words names None from) known
 
 next_words : (names : Names) (head : PlainHead) → step_words (resolved_next names head) ≤ length names.variables
 next_words names (plain.iterations_while condition) = omega arith
-next_words names (plain.iterations_for first from condition to_set to) = by (variable_target (named names to_set)) (variable_target_words names to_set)
+next_words names (plain.iterations_for first from condition to_set to) =
+    by (variable_target (named names to_set)) (variable_target_words names to_set)
   where
     by : (target : Option PlainTarget) → result_words target ≤ length names.variables
         → step_words (assignment_to target (resolved names None to)) ≤ length names.variables
@@ -255,7 +303,8 @@ next_words names (plain.iterations_for first from condition to_set to) = by (var
 -- ---- statements
 
 arm_levels : (p : PartWords) (condition : PlainSp) (arm : PlainStmts) (exits nothing : Bool) (rest : PlainStmts)
-    → stmts_levels (made_arm p condition arm (made_otherwise p exits nothing rest)) ≤ max (stmts_levels arm) (stmts_levels rest)
+    → stmts_levels (made_arm p condition arm (made_otherwise p exits nothing rest))
+    ≤ max (stmts_levels arm) (stmts_levels rest)
 arm_levels p condition arm exits nothing rest =
     omega (
       arith,
@@ -263,7 +312,8 @@ arm_levels p condition arm exits nothing rest =
       ended_levels nothing (stmt (masks p.free (if exits then where_not_taken p else where_other p)) rest),
     )
 
-one_more : (names : Names) (kind : Kind) (text : List ℕ) → length (with_variable names kind text).variables ≡ length names.variables + 1
+one_more : (names : Names) (kind : Kind) (text : List ℕ) → length (with_variable names kind text).variables
+    ≡ length names.variables + 1
 one_more names kind text = length-append names.variables (record { name = text; unsigned = is_unsigned kind } ∷ [])
 
 -- no statement closes a variable
@@ -275,25 +325,40 @@ mutual
   unfolding stmt_frame block_frame arms_frame otherwise_frame
 
   stmt_within : (fs : List (List ℕ)) (names : Names) (s : PlainStmt) (p : PartWords)
-      → Opens (length names.variables) (length (names_after names s).variables) (resolved_stmt fs names s) p (stmt_frame s)
+      → Opens (length names.variables) (length (names_after names s).variables) (resolved_stmt fs names s)
+      p (stmt_frame s)
   stmt_within fs names (plain.declared kind text None) p known = omega (arith, one_more names kind text)
   stmt_within fs names (plain.declared kind text (Some r)) p known =
       let n = length names.variables in
       let more = one_more names kind text in
-      omega (arith, more, right_within fs (with_variable names kind text) (Some n) (Some (to_level n)) r p (omega (arith, more)) known)
+      omega (
+        arith,
+        more,
+        right_within fs (with_variable names kind text) (Some n) (Some (to_level n)) r p
+            (omega (arith, more)) known,
+      )
   stmt_within fs names (plain.set text r) p known =
       let target = variable_target (named names text) in
       omega (arith, right_within fs names None target r p (variable_target_words names text) known)
   stmt_within fs names (plain.set_element text index r) p known =
       let i = resolved names None index in
       let of = element_target_words (named names text) i in
-      omega (arith, right_within fs names None (element_target (named names text) i) r p (omega (arith, of, resolved_words names None index)) known)
+      omega (
+        arith,
+        right_within fs names None (element_target (named names text) i) r p
+            (omega (arith, of, resolved_words names None index)) known,
+      )
   stmt_within fs names (plain.called text args) p known =
       let n = length names.variables in
-      omega (arith, call_within n p (number_of text fs) (resolved_args names None args) None (omega arith) (resolved_args_words names None args) known)
+      omega (
+        arith,
+        call_within n p (number_of text fs) (resolved_args names None args) None (omega arith)
+            (resolved_args_words names None args) known,
+      )
   stmt_within fs names (plain.sent core core_unsigned source target count) p known =
       omega (arith, resolved_words names None source, resolved_words names None target, resolved_words names None count)
-  stmt_within fs names (plain.chosen plain.no_arm otherwise) p known = let one = otherwise_within fs names otherwise p known in omega (arith, one)
+  stmt_within fs names (plain.chosen plain.no_arm otherwise) p known =
+      let one = otherwise_within fs names otherwise p known in omega (arith, one)
   stmt_within fs names (plain.chosen (plain.arm condition body arms) otherwise) p known =
       let n = length names.variables in
       let test = resolved names None condition in
@@ -302,7 +367,8 @@ mutual
       let rest = resolved_otherwise fs names otherwise in
       let last = otherwise_within fs names otherwise in
       let room = otherwise_frame otherwise - (words rest - n) in
-      let chosen = arms_within fs names (plain.arm condition body arms) (is_no_action rest) (λ q. made None q rest) (width.masks rest) room
+      let chosen = arms_within fs names (plain.arm condition body arms) (is_no_action rest) (λ q. made None q rest)
+      (width.masks rest) room
       (λ q. let one = last q None in omega (arith, one)) p in
       let one = last p None in
       omega (
@@ -321,15 +387,26 @@ mutual
       let first = maybe_sets (resolved_begin names head) in
       let loop = one (iterations (most_iterations bound) condition inside step) in
       let begin = begin_within names head p in
-      let within = iterations_within n (block_frame body) p (most_iterations bound) condition inside step (condition_words names head)
+      let within = iterations_within n (block_frame body) p (most_iterations bound) condition inside step
+      (condition_words names head)
       (next_words names head) (λ q. block_within fs names body q) in
-      omega (arith, joined_within n n 0 (2 + block_frame body) first loop p (omega arith) (λ k. let one = begin k in omega (arith, one)) within known)
+      omega (
+        arith,
+        joined_within n n 0 (2 + block_frame body) first loop p (omega arith) (λ k. let one = begin k in
+            omega (arith, one)) within known,
+      )
   stmt_within fs names plain.broken p known = omega arith
   stmt_within fs names plain.continued p known = omega arith
-  stmt_within fs names (plain.returned None) p known = omega (arith, return_within (length names.variables) p (constant 0) (omega arith) known)
+  stmt_within fs names (plain.returned None) p known =
+      omega (arith, return_within (length names.variables) p (constant 0) (omega arith) known)
   stmt_within fs names (plain.returned (Some e)) p known =
-      omega (arith, return_within (length names.variables) p (resolved names None e) (resolved_words names None e) known)
-  stmt_within fs names (plain.inner body) p known = let within = block_within fs names body p known in omega (arith, within)
+      omega (
+        arith,
+        return_within (length names.variables) p (resolved names None e)
+            (resolved_words names None e) known,
+      )
+  stmt_within fs names (plain.inner body) p known =
+      let within = block_within fs names body p known in omega (arith, within)
 
   block_within : (fs : List (List ℕ)) (names : Names) (body : PlainBlock) (p : PartWords)
       → Within (length names.variables) (resolved_block fs names body) p (block_frame body)
@@ -338,13 +415,16 @@ mutual
       let after = names_after names s in
       let first = resolved_stmt fs names s in
       let more = resolved_block fs after rest in
-      joined_within (length names.variables) (length after.variables) (stmt_frame s) (block_frame rest) first more p (names_more names s)
+      joined_within (length names.variables) (length after.variables) (stmt_frame s) (block_frame rest) first more p
+      (names_more names s)
       (stmt_within fs names s p) (block_within fs after rest p) known
 
   -- arms before actions that have so many masks, and after which there is so much room
-  arms_within : (fs : List (List ℕ)) (names : Names) (arms : PlainArms) (nothing : Bool) (otherwise : PartWords → PlainStmts) (inside room : ℕ)
+  arms_within : (fs : List (List ℕ)) (names : Names) (arms : PlainArms) (nothing : Bool)
+      (otherwise : PartWords → PlainStmts) (inside room : ℕ)
       → ((q : PartWords) → inside - 1 + stmts_levels (otherwise q) ≤ room) → (p : PartWords)
-      → branches_words (resolved_arms fs names arms) - length names.variables + (branches_masks (resolved_arms fs names arms) inside - 1)
+      → branches_words (resolved_arms fs names arms) - length names.variables
+      + (branches_masks (resolved_arms fs names arms) inside - 1)
       + stmts_levels (made_branches p (resolved_arms fs names arms) nothing otherwise) ≤ arms_frame arms + room
   arms_within fs names plain.no_arm nothing otherwise inside room each p = omega (arith, each p)
   arms_within fs names (plain.arm condition body rest) nothing otherwise inside room each p =
@@ -357,7 +437,8 @@ mutual
         first,
         more,
         resolved_words names None condition,
-        arm_levels p (resolved names None condition) arm (actions_exit any_exit (resolved_block fs names body)) (is_no_branch others && nothing) (made_branches (in_arm p) others nothing otherwise),
+        arm_levels p (resolved names None condition) arm (actions_exit any_exit (resolved_block fs names body))
+            (is_no_branch others && nothing) (made_branches (in_arm p) others nothing otherwise),
       )
 
   otherwise_within : (fs : List (List ℕ)) (names : Names) (otherwise : PlainOtherwise) (p : PartWords)
@@ -374,14 +455,20 @@ body_within fs names (s ∷ rest) p known =
     let after = names_after names s in
     let first = resolved_stmt fs names s in
     let more = resolved_body fs after rest in
-    let all = joined_within (length names.variables) (length after.variables) (stmt_frame s) (body_frame rest) first more p (names_more names s)
+    let all = joined_within (length names.variables) (length after.variables) (stmt_frame s) (body_frame rest) first
+    more p (names_more names s)
     (stmt_within fs names s p) (body_within fs after rest p) known in
     omega (arith, all, sum_by-cons stmt_frame s rest)
 
 pub frame_within : (fs : List (List ℕ)) (slots : List Slot) (parameters : List Parameter) (body : List PlainStmt)
-    → (made_function (length parameters) (resolved_body fs (record { slots = slots; variables = parameter_variables parameters }) body)).frame
+    → (made_function (length parameters)
+    (resolved_body fs (record { slots = slots; variables = parameter_variables parameters }) body)).frame
     ≤ function_frame parameters body
 frame_within fs slots parameters body =
     let names : Names = record { slots = slots; variables = parameter_variables parameters } in
     let all = resolved_body fs names body in
-    omega (arith, body_within fs names body (outermost (variables (length parameters) all)) None, parameters_open parameters)
+    omega (
+      arith,
+      body_within fs names body (outermost (variables (length parameters) all)) None,
+      parameters_open parameters,
+    )

@@ -16,7 +16,8 @@ use Rattle.single_path.proofs.Frames.{put_there}
 
 target_keeps : (level : ℕ) (target : PlainTarget) (v : ℕ) (l : values.State) → is_level level target ≡ false
     → (resolved.with_target target v l).locals level ≡ l.locals level
-target_keeps level (to_level at) v l is = put_there at v level l.locals (λ same. true≢false (sym (eq-eqb at level same) ∙ is))
+target_keeps level (to_level at) v l is =
+    put_there at v level l.locals (λ same. true≢false (sym (eq-eqb at level same) ∙ is))
 target_keeps level (to_cell cell) v l is = refl
 target_keeps level (to_array array index) v l is = refl
 
@@ -34,7 +35,8 @@ then_keeps : (level : ℕ) (next : values.State → Done) (w : Way) (m : values.
 then_keeps level next way.On m each = each m
 then_keeps level next _ m each = refl
 
-iteration_keeps : (level : ℕ) (more : values.State → Done) (step : values.State → values.State) (w : Way) (m : values.State) → Keeps level more
+iteration_keeps : (level : ℕ) (more : values.State → Done) (step : values.State → values.State) (w : Way)
+    (m : values.State) → Keeps level more
     → ((l : values.State) → (step l).locals level ≡ l.locals level)
     → (iteration_done more step (record { way = w; state = m })).state.locals level ≡ m.locals level
 iteration_keeps level more step way.On m each stepped = each (step m) ∙ stepped m
@@ -42,18 +44,27 @@ iteration_keeps level more step way.Broken m each stepped = refl
 iteration_keeps level more step way.Continued m each stepped = each (step m) ∙ stepped m
 iteration_keeps level more step (way.Returned v) m each stepped = refl
 
-iterations_keep : (level : ℕ) (holds : values.State → Bool) (body : values.State → Done) (step : values.State → values.State) → Keeps level body
-    → ((l : values.State) → (step l).locals level ≡ l.locals level) → (n : ℕ) → Keeps level (iterations_done holds body step n)
+iterations_keep : (level : ℕ) (holds : values.State → Bool) (body : values.State → Done)
+    (step : values.State → values.State) → Keeps level body
+    → ((l : values.State) → (step l).locals level ≡ l.locals level) → (n : ℕ)
+    → Keeps level (iterations_done holds body step n)
 iterations_keep level holds body step each stepped zero l = refl
-iterations_keep level holds body step each stepped (suc n) l = by (holds l) (iterations_keep level holds body step each stepped n)
+iterations_keep level holds body step each stepped (suc n) l =
+    by (holds l) (iterations_keep level holds body step each stepped n)
   where
     by : (b : Bool) → Keeps level (iterations_done holds body step n)
-        → (elim b as (λ _. Done) [ true ↦ iteration_done (iterations_done holds body step n) step (body l) | false ↦ goes_on l ]).state.locals level ≡ l.locals level
-    by true more = iteration_keeps level (iterations_done holds body step n) step (body l).way (body l).state more stepped ∙ each l
+        → (elim b as (λ _. Done) [
+          | true ↦ iteration_done (iterations_done holds body step n) step (body l)
+          | false ↦
+              goes_on l
+        ]).state.locals level ≡ l.locals level
+    by true more = iteration_keeps level (iterations_done holds body step n) step (body l).way (body l).state more
+        stepped ∙ each l
     by false more = refl
 
 mutual
-  action_keeps : (gc : resolved.Serves) (level : ℕ) (a : PlainAction) → action_sets level a ≡ false → Keeps level (resolved.action_done gc a)
+  action_keeps : (gc : resolved.Serves) (level : ℕ) (a : PlainAction) → action_sets level a ≡ false
+      → Keeps level (resolved.action_done gc a)
   action_keeps gc level (sets a) is l = target_keeps level a.target (resolved.worth a.value l) l is
   action_keeps gc level (calls k args None) is l = refl
   action_keeps gc level (calls k args (Some target)) is l =
@@ -62,32 +73,42 @@ mutual
   action_keeps gc level (transfers core source target count) is l = refl
   action_keeps gc level (chooses branches otherwise) is l =
       let both = or_parts (branches_set level branches) (actions_set level otherwise) is in
-      branches_keep gc level branches (resolved.actions_done gc otherwise) (actions_keep gc level otherwise both.1) both.0 l
+      branches_keep gc level branches (resolved.actions_done gc otherwise)
+      (actions_keep gc level otherwise both.1) both.0 l
   action_keeps gc level (iterations most condition body step) is l =
       let both = or_parts (actions_set level body) (step_sets level step) is in
-      iterations_keep level (resolved.holds condition) (resolved.actions_done gc body) (resolved.step_done step) (actions_keep gc level body both.0)
+      iterations_keep level (resolved.holds condition) (resolved.actions_done gc body) (resolved.step_done step)
+      (actions_keep gc level body both.0)
       (λ m. step_keeps level step m both.1) most l
   action_keeps gc level breaks is l = refl
   action_keeps gc level continues is l = refl
   action_keeps gc level (returns e) is l = refl
 
-  pub actions_keep : (gc : resolved.Serves) (level : ℕ) (all : PlainActions) → actions_set level all ≡ false → Keeps level (resolved.actions_done gc all)
+  pub actions_keep : (gc : resolved.Serves) (level : ℕ) (all : PlainActions) → actions_set level all ≡ false
+      → Keeps level (resolved.actions_done gc all)
   actions_keep gc level no_action is l = refl
   actions_keep gc level (action a rest) is l =
       let both = or_parts (action_sets level a) (actions_set level rest) is in
       let d = resolved.action_done gc a l in
-      then_keeps level (resolved.actions_done gc rest) d.way d.state (actions_keep gc level rest both.1) ∙ action_keeps gc level a both.0 l
+      then_keeps level (resolved.actions_done gc rest) d.way d.state (actions_keep gc level rest both.1)
+      ∙ action_keeps gc level a both.0 l
 
-  branches_keep : (gc : resolved.Serves) (level : ℕ) (bs : PlainBranches) (meant : values.State → Done) → Keeps level meant → branches_set level bs ≡ false
+  branches_keep : (gc : resolved.Serves) (level : ℕ) (bs : PlainBranches) (meant : values.State → Done)
+      → Keeps level meant → branches_set level bs ≡ false
       → Keeps level (resolved.branches_done gc bs meant)
   branches_keep gc level no_branch meant each is l = each l
   branches_keep gc level (branch condition body rest) meant each is l =
       let both = or_parts (actions_set level body) (branches_set level rest) is in
-      by (resolved.holds condition l) (actions_keep gc level body both.0 l) (branches_keep gc level rest meant each both.1 l)
+      by (resolved.holds condition l) (actions_keep gc level body both.0 l)
+      (branches_keep gc level rest meant each both.1 l)
     where
       by : (b : Bool) → (resolved.actions_done gc body l).state.locals level ≡ l.locals level
           → (resolved.branches_done gc rest meant l).state.locals level ≡ l.locals level
-          → (elim b as (λ _. Done) [ true ↦ resolved.actions_done gc body l | false ↦ resolved.branches_done gc rest meant l ]).state.locals level ≡ l.locals level
+          → (elim b as (λ _. Done) [
+            | true ↦ resolved.actions_done gc body l
+            | false ↦ resolved.branches_done gc rest
+                meant l
+          ]).state.locals level ≡ l.locals level
       by true one others = one
       by false one others = others
 
@@ -104,7 +125,8 @@ ends_exits (chooses branches otherwise) is = absurd (true≢false (sym is))
 ends_exits (iterations most condition body step) is = absurd (true≢false (sym is))
 
 mutual
-  action_fits : (Fit : ℕ → ℕ → Type 0) (inside : Bool) (a : PlainAction) → action_exits any_exit a ≡ false → FitsAction Fit true a → FitsAction Fit inside a
+  action_fits : (Fit : ℕ → ℕ → Type 0) (inside : Bool) (a : PlainAction) → action_exits any_exit a ≡ false
+      → FitsAction Fit true a → FitsAction Fit inside a
   action_fits Fit inside (sets a) none fits = tt
   action_fits Fit inside (calls k args result) none fits = fits
   action_fits Fit inside (transfers core source target count) none fits = tt
@@ -116,18 +138,24 @@ mutual
   action_fits Fit inside continues none fits = absurd (true≢false none)
   action_fits Fit inside (returns e) none fits = tt
 
-  pub actions_fit : (Fit : ℕ → ℕ → Type 0) (inside : Bool) (all : PlainActions) → actions_exit any_exit all ≡ false → Fits Fit true all → Fits Fit inside all
+  pub actions_fit : (Fit : ℕ → ℕ → Type 0) (inside : Bool) (all : PlainActions) → actions_exit any_exit all ≡ false
+      → Fits Fit true all → Fits Fit inside all
   actions_fit Fit inside no_action none fits = tt
   actions_fit Fit inside (action a rest) none fits =
-      let both = or_parts (action_exits any_exit a) (if ends a then false else actions_exit any_exit rest) none in
-      (action_fits Fit inside a both.0 fits.0, by (ends a) refl both.0 both.1 (λ rest_none. actions_fit Fit inside rest rest_none fits.1))
+      let both = or_parts (action_exits any_exit a) (if ends a then false else actions_exit any_exit rest) none in (
+        action_fits Fit inside a both.0 fits.0,
+        by (ends a) refl both.0 both.1
+            (λ rest_none. actions_fit Fit inside rest rest_none fits.1),
+      )
     where
-      by : (ended : Bool) → ends a ≡ ended → action_exits any_exit a ≡ false → (if ended then false else actions_exit any_exit rest) ≡ false
+      by : (ended : Bool) → ends a ≡ ended → action_exits any_exit a ≡ false
+          → (if ended then false else actions_exit any_exit rest) ≡ false
           → (actions_exit any_exit rest ≡ false → Fits Fit inside rest) → Fits Fit inside rest
       by true is none_here none_after further = absurd (true≢false (sym (ends_exits a is) ∙ none_here))
       by false is none_here none_after further = further none_after
 
-  branches_fit : (Fit : ℕ → ℕ → Type 0) (inside : Bool) (bs : PlainBranches) → branches_exit any_exit bs ≡ false → FitsBranches Fit true bs
+  branches_fit : (Fit : ℕ → ℕ → Type 0) (inside : Bool) (bs : PlainBranches) → branches_exit any_exit bs ≡ false
+      → FitsBranches Fit true bs
       → FitsBranches Fit inside bs
   branches_fit Fit inside no_branch none fits = tt
   branches_fit Fit inside (branch condition body rest) none fits =

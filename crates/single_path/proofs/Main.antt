@@ -29,7 +29,8 @@ use Rattle.single_path.proofs.Valid.{found_last}
 
 still_found : (text : List ℕ) (names : List Named) (name : List ℕ) (m : Meaning) → is_some (found text names) ≡ true
     → is_some (found text (declared names name m)) ≡ true
-still_found text names name m h = ap is_some (found_last text names (record { name = name; means = m })) ∙ by (bytes_eq name text)
+still_found text names name m h =
+    ap is_some (found_last text names (record { name = name; means = m })) ∙ by (bytes_eq name text)
   where
     by : (same : Bool) → is_some (if same then Some m else found text names) ≡ true
     by true = refl
@@ -38,11 +39,14 @@ still_found text names name m h = ap is_some (found_last text names (record { na
 found_here : (text : List ℕ) (names : List Named) (name : List ℕ) (m : Meaning) → bytes_eq name text ≡ true
     → is_some (found text (declared names name m)) ≡ true
 found_here text names name m same =
-    ap is_some (found_last text names (record { name = name; means = m }) ∙ ap (λ b. if b then Some m else found text names) same)
+    ap is_some (found_last text names (record { name = name; means = m })
+    ∙ ap (λ b. if b then Some m else found text names) same)
 
 -- a name that is declared already is no function's
-function_other : (cores own : ℕ) (names : List Named) (at : ℕ) (kind : Option Kind) (name : List ℕ) (void_word : Bool) (parameters : List Parameter)
-    (body : List PlainStmt) → IsTrue (has_none (function_faults cores own names at kind name void_word parameters body)) → (text : List ℕ)
+function_other : (cores own : ℕ) (names : List Named) (at : ℕ) (kind : Option Kind) (name : List ℕ) (void_word : Bool)
+    (parameters : List Parameter)
+    (body : List PlainStmt) → IsTrue (has_none (function_faults cores own names at kind name void_word parameters body))
+    → (text : List ℕ)
     → is_some (found text names) ≡ true → bytes_eq name text ≡ false
 function_other cores own names at kind name void_word parameters body none text there = by (bytes_eq name text) refl
   where
@@ -54,13 +58,17 @@ function_other cores own names at kind name void_word parameters body none text 
         not_so (is_declared name 0 names) name_at fault.Twice
         (none_left (twice_faults 0 names name_at name) _
         (none_left (named_faults names name_at name parameters body)
-        (inner_faults cores own (declared names name (function_means true kind parameters)) name_at kind void_word parameters body) none))
+        (inner_faults cores own (declared names name (function_means true kind parameters)) name_at kind void_word
+        parameters body) none))
 
     by : (same : Bool) → bytes_eq name text ≡ same → bytes_eq name text ≡ false
     by false is = is
-    by true is = absurd (true≢false (sym there ∙ ap (λ x. is_some (found x names)) (sym ((bytes_eq-Decides name text).0 is)) ∙ new))
+    by true is =
+        absurd (true≢false (sym there ∙ ap (λ x. is_some (found x names)) (sym ((bytes_eq-Decides name text).0 is))
+        ∙ new))
 
-no_later : (cores own : ℕ) (names : List Named) (at : ℕ) (items : List PlainItem) → IsTrue (has_none (items_faults cores own names at items))
+no_later : (cores own : ℕ) (names : List Named) (at : ℕ) (items : List PlainItem)
+    → IsTrue (has_none (items_faults cores own names at items))
     → (text : List ℕ) → is_some (found text names) ≡ true → (k : ℕ) → last_named (λ n. n) k text (names_in items) ≡ None
 no_later cores own names at [] none text there k = refl
 no_later cores own names at (global g ∷ items) none text there k =
@@ -71,12 +79,14 @@ no_later cores own names at (global g ∷ items) none text there k =
 no_later cores own names at (function kind name void_word parameters body ∷ items) none text there k =
     let f = function kind name void_word parameters body in
     let behind = items_faults cores own (with_item names f) (at + item_size f) items in
-    let later = no_later cores own (with_item names f) (at + item_size f) items (none_right (item_faults cores own names at f) behind none) text
+    let later = no_later cores own (with_item names f) (at + item_size f) items
+    (none_right (item_faults cores own names at f) behind none) text
     (still_found text names name (function_means false kind parameters) there) (k + 1) in
     let here = none_left (item_faults cores own names at f) behind none in
     let other = function_other cores own names at kind name void_word parameters body here text there in
     let own_name : Found (List ℕ) = record { at = k; is = name } in
-    ap (λ l. option_or l (if bytes_eq name text then Some own_name else None)) later ∙ ap (λ b. if b then Some own_name else None) other
+    ap (λ l. option_or l (if bytes_eq name text then Some own_name else None)) later
+    ∙ ap (λ b. if b then Some own_name else None) other
 
 -- ---- where `main` stands, where so many functions stand before these
 
@@ -86,7 +96,8 @@ record MainFrom (k : ℕ) (items : List PlainItem) : Type 0 where
   within : number < length (parameters_in items)
   bare : slice_index (parameters_in items) number ≡ 0
 
-main_from : (cores own : ℕ) (names : List Named) (at : ℕ) (items : List PlainItem) → IsTrue (has_none (items_faults cores own names at items))
+main_from : (cores own : ℕ) (names : List Named) (at : ℕ) (items : List PlainItem)
+    → IsTrue (has_none (items_faults cores own names at items))
     → has_main items ≡ true → (k : ℕ) → MainFrom k items
 main_from cores own names at [] none there k = absurd (true≢false (sym there))
 main_from cores own names at (global g ∷ items) none there k =
@@ -95,7 +106,8 @@ main_from cores own names at (global g ∷ items) none there k =
     (none_right (item_faults cores own names at (global g)) behind none) there k in
     record { number = rest.number; is = rest.is; within = rest.within; bare = rest.bare }
 main_from cores own names at (function kind name void_word parameters body ∷ items) none there k =
-    by (is_main f) refl there (λ later. main_from cores own (with_item names f) (at + item_size f) items none_behind later (k + 1))
+    by (is_main f) refl there (λ later. main_from cores own (with_item names f) (at + item_size f) items
+    none_behind later (k + 1))
   where
     f : PlainItem
     f = function kind name void_word parameters body
@@ -109,9 +121,11 @@ main_from cores own names at (function kind name void_word parameters body ∷ i
     later_meant (Some l) here n is = is
 
     none_behind : IsTrue (has_none (items_faults cores own (with_item names f) (at + item_size f) items))
-    none_behind = none_right (item_faults cores own names at f) (items_faults cores own (with_item names f) (at + item_size f) items) none
+    none_behind = none_right (item_faults cores own names at f) (items_faults cores own (with_item names f)
+        (at + item_size f) items) none
 
-    by : (here : Bool) → is_main f ≡ here → (here || has_main items) ≡ true → (has_main items ≡ true → MainFrom (k + 1) items)
+    by : (here : Bool) → is_main f ≡ here → (here || has_main items) ≡ true
+        → (has_main items ≡ true → MainFrom (k + 1) items)
         → MainFrom k (f ∷ items)
     by true is some rest =
         let parts = and_parts (bytes_eq name (codes "main")) (gives_int kind && length parameters == 0) is in
@@ -120,7 +134,8 @@ main_from cores own names at (function kind name void_word parameters body ∷ i
         (found_here (codes "main") names name (function_means false kind parameters) parts.0) (k + 1) in
         record {
           number = 0;
-          is = ap (λ l. option_map (λ f. f.at) (option_or l (if bytes_eq name (codes "main") then Some own_name else None))) last
+          is = ap (λ l. option_map (λ f. f.at)
+              (option_or l (if bytes_eq name (codes "main") then Some own_name else None))) last
               ∙ ap (λ b. option_map (λ f. f.at) (if b then Some own_name else None)) parts.0 ∙ ap Some (omega arith);
           within = omega arith;
           bare = eqb-true (length parameters) 0 bare.1;
@@ -129,7 +144,8 @@ main_from cores own names at (function kind name void_word parameters body ∷ i
         let later = rest some in
         record {
           number = suc later.number;
-          is = later_meant (last_named (λ n. n) (k + 1) (codes "main") (names_in items)) (bytes_eq name (codes "main")) (k + 1 + later.number) later.is
+          is = later_meant (last_named (λ n. n) (k + 1) (codes "main") (names_in items)) (bytes_eq name (codes "main"))
+              (k + 1 + later.number) later.is
               ∙ ap Some (omega arith);
           within = omega (arith, later.within);
           bare = later.bare;
@@ -154,13 +170,16 @@ main_there cores own items valid =
       bare = main.bare;
     }
 
-pub entry_is_formed : (cores own : ℕ) (items : List PlainItem) → IsValid items cores own → entry_formed (with_calls items) ≡ true
+pub entry_is_formed : (cores own : ℕ) (items : List PlainItem) → IsValid items cores own
+    → entry_formed (with_calls items) ≡ true
 entry_is_formed cores own items valid =
     let counts = parameters_in items in
     let bodies = resolved_items (layout_of items) [] items in
     let same = as_many (layout_of items) [] items in
     let main = main_there cores own items valid in
     ap (λ n. entry_formed (record (with_calls items) { entry = entry_of n })) main.is
-    ∙ and_from _ _ (lt-ltb main.number (length (with_calls items).functions) (omega (arith, main.within, made_length counts bodies same)))
+    ∙ and_from _ _ (lt-ltb main.number (length (with_calls items).functions)
+    (omega (arith, main.within, made_length counts bodies same)))
     (eq-eqb (slice_index_or (with_calls items).functions main.number no_function).parameters 0
-    (ap (λ f. f.parameters) (made_at counts bodies main.number (omega (arith, main.within, same)) main.within) ∙ main.bare))
+    (ap (λ f. f.parameters) (made_at counts bodies main.number (omega (arith, main.within, same)) main.within)
+    ∙ main.bare))

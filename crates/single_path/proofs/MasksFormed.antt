@@ -34,29 +34,35 @@ below n slots p order within = record {
 
 -- and so are those of the variables
 pub words_there : (n slots : ℕ) (p : PartWords) → Order n p → p.free ≤ slots → n ≤ slots
-words_there n slots p order within = omega (arith, within, order.result, order.function, order.loop, order.own, order.free)
+words_there n slots p order within =
+    omega (arith, within, order.result, order.function, order.loop, order.own, order.free)
 
 -- ---- statements one after another
 
-pub more_formed : (fs : List PlainFunction) (number slots : ℕ) (t : PlainStmt) (ts : PlainStmts) → stmt_formed fs number slots t ≡ true
+pub more_formed : (fs : List PlainFunction) (number slots : ℕ) (t : PlainStmt) (ts : PlainStmts)
+    → stmt_formed fs number slots t ≡ true
     → stmts_formed fs number slots ts ≡ true → stmts_formed fs number slots (stmt t ts) ≡ true
 more_formed fs number slots t ts here there = and_from _ _ here there
 
-pub both_formed : (fs : List PlainFunction) (number slots : ℕ) (xs ys : PlainStmts) → stmts_formed fs number slots xs ≡ true
+pub both_formed : (fs : List PlainFunction) (number slots : ℕ) (xs ys : PlainStmts) → stmts_formed fs number slots xs
+    ≡ true
     → stmts_formed fs number slots ys ≡ true → stmts_formed fs number slots (tree.joined xs ys) ≡ true
 both_formed fs number slots xs ys here there = joined_formed fs number slots xs ys ∙ and_from _ _ here there
 
 -- statements that may be left out
-pub unless_formed : (fs : List PlainFunction) (number slots : ℕ) (left_out : Bool) (ts : PlainStmts) → stmts_formed fs number slots ts ≡ true
+pub unless_formed : (fs : List PlainFunction) (number slots : ℕ) (left_out : Bool) (ts : PlainStmts)
+    → stmts_formed fs number slots ts ≡ true
     → stmts_formed fs number slots (if left_out then no_stmt else ts) ≡ true
 unless_formed fs number slots true ts h = refl
 unless_formed fs number slots false ts h = h
 
 -- ---- masks: what they are set to names masks, constants and conditions
 
-pub mask_formed : (fs : List PlainFunction) (number slots slot : ℕ) (e : PlainSp) → slot < slots → Sound e → expr_words e ≤ slots
+pub mask_formed : (fs : List PlainFunction) (number slots slot : ℕ) (e : PlainSp) → slot < slots → Sound e
+    → expr_words e ≤ slots
     → stmt_formed fs number slots (masks slot e) ≡ true
-mask_formed fs number slots slot e there sound within = and_from _ _ (lt-ltb slot slots there) (sound_formed slots e sound within)
+mask_formed fs number slots slot e there sound within =
+    and_from _ _ (lt-ltb slot slots there) (sound_formed slots e sound within)
 
 pub condition_sound : (mask : ℕ) (condition : PlainSp) → Sound condition → Sound (where_so mask condition)
 condition_sound mask condition sound = by (is_truth condition)
@@ -69,27 +75,32 @@ condition_sound mask condition sound = by (is_truth condition)
     }
 
 -- and it names no more words of a frame
-pub so_words : (mask : ℕ) (condition : PlainSp) → expr_words (where_so mask condition) ≤ max (mask + 1) (expr_words condition)
+pub so_words : (mask : ℕ) (condition : PlainSp) → expr_words (where_so mask condition)
+    ≤ max (mask + 1) (expr_words condition)
 so_words mask condition = by (is_truth condition)
   where
-    by : (b : Bool) → expr_words (both (frame_word mask) (if b then condition else not_zero condition)) ≤ max (mask + 1) (expr_words condition)
+    by : (b : Bool) → expr_words (both (frame_word mask) (if b then condition else not_zero condition))
+        ≤ max (mask + 1) (expr_words condition)
     by true = omega arith
     by false = omega arith
 
 pub begun_formed : (fs : List PlainFunction) (number slots : ℕ) (p : PartWords) → Below p slots
     → stmt_formed fs number slots (masks p.function (begun_mask p)) ≡ true
 begun_formed fs number slots p b =
-    mask_formed fs number slots p.function (begun_mask p) b.function (record { ranged = (tt, tt); few = omega arith }) (omega (arith, b.function))
+    mask_formed fs number slots p.function (begun_mask p) b.function (record { ranged = (tt, tt); few = omega arith })
+    (omega (arith, b.function))
 
 pub on_formed : (fs : List PlainFunction) (number slots : ℕ) (p : PartWords) → Below p slots
     → stmt_formed fs number slots (masks p.own (where_on p)) ≡ true
 on_formed fs number slots p b =
-    mask_formed fs number slots p.own (where_on p) b.own (record { ranged = (tt, tt); few = omega arith }) (omega (arith, b.own, b.loop))
+    mask_formed fs number slots p.own (where_on p) b.own (record { ranged = (tt, tt); few = omega arith })
+    (omega (arith, b.own, b.loop))
 
 pub broken_formed : (fs : List PlainFunction) (number slots : ℕ) (p : PartWords) → Below p slots
     → stmt_formed fs number slots (masks p.iteration (broken p)) ≡ true
 broken_formed fs number slots p b =
-    mask_formed fs number slots p.iteration (broken p) b.loop (record { ranged = (tt, (tt, tt)); few = omega arith }) (omega (arith, b.own, b.loop))
+    mask_formed fs number slots p.iteration (broken p) b.loop (record { ranged = (tt, (tt, tt)); few = omega arith })
+    (omega (arith, b.own, b.loop))
 
 -- a mask that is set in one of two ways
 either_formed : (fs : List PlainFunction) (number slots slot : ℕ) (e : PlainSp → PlainSp) (first : Bool) (a b : PlainSp)
@@ -102,7 +113,8 @@ pub continued_formed : (fs : List PlainFunction) (number slots : ℕ) (p : PartW
     → stmt_formed fs number slots (masks p.iteration (continued p)) ≡ true
 continued_formed fs number slots p b =
     either_formed fs number slots p.iteration (λ e. e) p.counted (broken p) more (broken_formed fs number slots p b)
-    (mask_formed fs number slots p.iteration more b.loop (record { ranged = (tt, (tt, tt)); few = omega arith }) (omega (arith, b.own, b.loop)))
+    (mask_formed fs number slots p.iteration more b.loop (record { ranged = (tt, (tt, tt)); few = omega arith })
+    (omega (arith, b.own, b.loop)))
   where
     more : PlainSp
     more = between_two binary.Plus (frame_word p.iteration) (bit_of p.own)
@@ -110,27 +122,32 @@ continued_formed fs number slots p b =
 pub begun_part_formed : (fs : List PlainFunction) (number slots : ℕ) (p : PartWords) → Below p slots → p.free < slots
     → stmt_formed fs number slots (masks p.free (bit_of p.own)) ≡ true
 begun_part_formed fs number slots p b free =
-    mask_formed fs number slots p.free (bit_of p.own) free (record { ranged = (tt, tt); few = omega arith }) (omega (arith, b.own))
+    mask_formed fs number slots p.free (bit_of p.own) free (record { ranged = (tt, tt); few = omega arith })
+    (omega (arith, b.own))
 
 pub not_returned_formed : (fs : List PlainFunction) (number slots : ℕ) (p : PartWords) → Below p slots
     → stmt_formed fs number slots (masks p.iteration (where_not_returned p)) ≡ true
 not_returned_formed fs number slots p b =
-    mask_formed fs number slots p.iteration (where_not_returned p) b.loop (record { ranged = (tt, tt); few = omega arith })
+    mask_formed fs number slots p.iteration (where_not_returned p) b.loop
+    (record { ranged = (tt, tt); few = omega arith })
     (omega (arith, b.function, b.loop))
 
 pub not_taken_formed : (fs : List PlainFunction) (number slots : ℕ) (p : PartWords) → Below p slots → p.free < slots
     → stmt_formed fs number slots (masks p.free (where_not_taken p)) ≡ true
 not_taken_formed fs number slots p b free =
-    mask_formed fs number slots p.free (where_not_taken p) free (record { ranged = ((tt, tt), (tt, tt)); few = omega arith })
+    mask_formed fs number slots p.free (where_not_taken p) free
+    (record { ranged = ((tt, tt), (tt, tt)); few = omega arith })
     (omega (arith, b.own, b.loop, free))
 
-pub other_formed : (fs : List PlainFunction) (number slots : ℕ) (p : PartWords) (exits : Bool) → Below p slots → p.free < slots
+pub other_formed : (fs : List PlainFunction) (number slots : ℕ) (p : PartWords) (exits : Bool) → Below p slots
+    → p.free < slots
     → stmt_formed fs number slots (masks p.free (if exits then where_not_taken p else where_other p)) ≡ true
 other_formed fs number slots p true b free = not_taken_formed fs number slots p b free
 other_formed fs number slots p false b free = by (p.own == p.iteration)
   where
     by : (alone : Bool)
-        → stmt_formed fs number slots (masks p.free (between_two binary.BitXor (if alone then bit_of p.own else frame_word p.own) (frame_word p.free))) ≡ true
+        → stmt_formed fs number slots (masks p.free
+        (between_two binary.BitXor (if alone then bit_of p.own else frame_word p.own) (frame_word p.free))) ≡ true
     by true =
         mask_formed fs number slots p.free (between_two binary.BitXor (bit_of p.own) (frame_word p.free)) free
         (record { ranged = ((tt, tt), tt); few = omega arith }) (omega (arith, b.own, free))
@@ -145,9 +162,11 @@ pub returned_function_formed : (fs : List PlainFunction) (number slots : ℕ) (p
 returned_function_formed fs number slots p b =
     let rest = without (frame_word p.function) in
     either_formed fs number slots p.function rest (p.own == p.iteration) (bit_of p.own) (frame_word p.own)
-    (mask_formed fs number slots p.function (rest (bit_of p.own)) b.function (record { ranged = (tt, (tt, tt)); few = omega arith })
+    (mask_formed fs number slots p.function (rest (bit_of p.own)) b.function
+    (record { ranged = (tt, (tt, tt)); few = omega arith })
     (omega (arith, b.function, b.own)))
-    (mask_formed fs number slots p.function (rest (frame_word p.own)) b.function (record { ranged = (tt, tt); few = omega arith })
+    (mask_formed fs number slots p.function (rest (frame_word p.own)) b.function
+    (record { ranged = (tt, tt); few = omega arith })
     (omega (arith, b.function, b.own)))
 
 pub returned_loop_formed : (fs : List PlainFunction) (number slots : ℕ) (p : PartWords) → Below p slots
@@ -156,5 +175,7 @@ returned_loop_formed fs number slots p b =
     let bit = both (frame_word p.iteration) (constant 2) in
     let rest = without (frame_word p.iteration) (frame_word p.own) in
     either_formed fs number slots p.iteration (λ e. e) (p.own == p.iteration) bit rest
-    (mask_formed fs number slots p.iteration bit b.loop (record { ranged = (tt, tt); few = omega arith }) (omega (arith, b.loop)))
-    (mask_formed fs number slots p.iteration rest b.loop (record { ranged = (tt, tt); few = omega arith }) (omega (arith, b.loop, b.own)))
+    (mask_formed fs number slots p.iteration bit b.loop (record { ranged = (tt, tt); few = omega arith })
+    (omega (arith, b.loop)))
+    (mask_formed fs number slots p.iteration rest b.loop (record { ranged = (tt, tt); few = omega arith })
+    (omega (arith, b.loop, b.own)))

@@ -22,8 +22,10 @@ use Rattle.single_path.proofs.Main.{MainThere, main_there}
 pub meant : (cores own : ℕ) (items : List PlainItem) → IsValid items cores own → (input : List ℕ) (shared comm : ℕ → ℕ)
     → IsMeant (begins.straight (with_calls items) input shared comm) (meaning items input shared comm)
 meant cores own items valid input shared comm = record {
-  value = ap (λ (g : straight.Outcome). g.value) entered ∙ serving.value main.number [] world callable ∙ sym (ap (λ (g : Outcome). g.value) means);
-  world = ap (λ (g : straight.Outcome). g.world) entered ∙ serving.world main.number [] world callable ∙ sym (ap (λ (g : Outcome). g.world) means);
+  value = ap (λ (g : straight.Outcome). g.value) entered ∙ serving.value main.number [] world callable
+      ∙ sym (ap (λ (g : Outcome). g.value) means);
+  world = ap (λ (g : straight.Outcome). g.world) entered ∙ serving.world main.number [] world callable
+      ∙ sym (ap (λ (g : Outcome). g.world) means);
 }
   where
     counts : List ℕ
@@ -41,15 +43,18 @@ meant cores own items valid input shared comm = record {
     same : length counts ≡ length bodies
     same = as_many (layout_of items) [] items
 
-    serving : Serving (Callable counts (length bodies)) (resolved.serves bodies (length bodies)) (straight.serves (made_functions counts bodies) (length bodies))
+    serving : Serving (Callable counts (length bodies)) (resolved.serves bodies (length bodies))
+        (straight.serves (made_functions counts bodies) (length bodies))
     serving = functions_serve counts bodies same (functions_fit cores own items valid) (length bodies) (omega arith)
 
     callable : Callable counts (length bodies) main.number 0
     callable = (main.within, sym main.bare)
 
-    entered : begins.straight (with_calls items) input shared comm ≡ straight.serves (made_functions counts bodies) (length bodies) main.number 1 [] world
+    entered : begins.straight (with_calls items) input shared comm ≡ straight.serves (made_functions counts bodies)
+        (length bodies) main.number 1 [] world
     entered =
-        ap₂ (λ n k. straight.serves (made_functions counts bodies) n k 1 [] world) (made_length counts bodies same) (ap entry_of main.is)
+        ap₂ (λ n k. straight.serves (made_functions counts bodies) n k 1 [] world) (made_length counts bodies same)
+        (ap entry_of main.is)
 
     means : meaning items input shared comm ≡ resolved.serves bodies (length bodies) main.number [] world
     means = program_means items world ∙ ap (λ m. numbered (resolved.serves bodies (length bodies)) m [] world) main.is

@@ -41,7 +41,8 @@ Ranged (between_two op a b) = Ranged a × Ranged b
 between_ranged : (op : BinaryOp) (u : Bool) (a b : PlainSp) → Ranged a → Ranged b → Ranged (resolved_between op u a b)
 between_ranged op u a b ha hb = by (is_exchanged op)
   where
-    by : (exchanged : Bool) → Ranged (if exchanged then between_two (operator_of op u) b a else between_two (operator_of op u) a b)
+    by : (exchanged : Bool) → Ranged (if exchanged then between_two (operator_of op u) b a else between_two
+        (operator_of op u) a b)
     by true = (hb, ha)
     by false = (ha, hb)
 
@@ -62,23 +63,30 @@ variable_ranged fresh (level at unsigned) fits = by (is_fresh fresh at)
 variable_ranged fresh (outside slot) fits = slot_cell_formed slot fits
 variable_ranged fresh scope.nothing fits = tt
 
-element_ranged : (stands : Stands) (index : PlainSp) → StandsFit stands → Ranged index → Ranged (resolved_element stands index)
+element_ranged : (stands : Stands) (index : PlainSp) → StandsFit stands → Ranged index
+    → Ranged (resolved_element stands index)
 element_ranged (level at unsigned) index fits h = tt
 element_ranged (outside slot) index fits h = (slot_array_formed slot fits, h)
 element_ranged scope.nothing index fits h = tt
 
 mutual
-  resolved_ranged : (names : Names) → Each SlotFits names.slots → (fresh : Option ℕ) (e : PlainExpr) → Ranged (resolved names fresh e)
+  resolved_ranged : (names : Names) → Each SlotFits names.slots → (fresh : Option ℕ) (e : PlainExpr)
+      → Ranged (resolved names fresh e)
   resolved_ranged names each fresh (plain.chain at first rest) =
-      steps_ranged names each fresh (expr_unsigned names first) (resolved names fresh first) rest (resolved_ranged names each fresh first)
-  resolved_ranged names each fresh (plain.unary ops of) = signs_ranged ops (resolved names fresh of) (resolved_ranged names each fresh of)
+      steps_ranged names each fresh (expr_unsigned names first) (resolved names fresh first) rest
+      (resolved_ranged names each fresh first)
+  resolved_ranged names each fresh (plain.unary ops of) =
+      signs_ranged ops (resolved names fresh of) (resolved_ranged names each fresh of)
   resolved_ranged names each fresh (plain.number n unsigned) = tt
-  resolved_ranged names each fresh (plain.name text) = variable_ranged fresh (named names text) (named_fits names text each)
+  resolved_ranged names each fresh (plain.name text) =
+      variable_ranged fresh (named names text) (named_fits names text each)
   resolved_ranged names each fresh (plain.element text index) =
-      element_ranged (named names text) (resolved names fresh index) (named_fits names text each) (resolved_ranged names each fresh index)
+      element_ranged (named names text) (resolved names fresh index) (named_fits names text each)
+      (resolved_ranged names each fresh index)
   resolved_ranged names each fresh (plain.paren of) = resolved_ranged names each fresh of
 
-  steps_ranged : (names : Names) → Each SlotFits names.slots → (fresh : Option ℕ) (u : Bool) (a : PlainSp) (steps : PlainSteps) → Ranged a
+  steps_ranged : (names : Names) → Each SlotFits names.slots → (fresh : Option ℕ) (u : Bool) (a : PlainSp)
+      (steps : PlainSteps) → Ranged a
       → Ranged (resolved_steps names fresh u a steps)
   steps_ranged names each fresh u a plain.no_step h = h
   steps_ranged names each fresh u a (plain.step op operand rest) h =
@@ -113,7 +121,8 @@ both_needed a b = (by (nat_lt a b) refl, exchanged (nat_lt b a) refl)
 between_need : (op : BinaryOp) (u : Bool) (a b : PlainSp) → need (resolved_between op u a b) ≤ max (need a) (1 + need b)
 between_need op u a b = by (is_exchanged op)
   where
-    by : (exchanged : Bool) → need (if exchanged then between_two (operator_of op u) b a else between_two (operator_of op u) a b)
+    by : (exchanged : Bool) → need (if exchanged then between_two (operator_of op u) b a else between_two
+        (operator_of op u) a b)
         ≤ max (need a) (1 + need b)
     by true = (both_needed (need a) (need b)).1
     by false = (both_needed (need a) (need b)).0
@@ -164,7 +173,8 @@ mutual
       let v = works_unsigned op u (expr_unsigned names operand) in
       let b = resolved names fresh operand in
       let inner = resolved_need names fresh operand in
-      let more = steps_need names fresh (gives_unsigned op u (expr_unsigned names operand)) (resolved_between op v a b) rest in
+      let more = steps_need names fresh (gives_unsigned op u (expr_unsigned names operand))
+      (resolved_between op v a b) rest in
       omega (arith, inner, more, between_need op v a b)
 
 -- ---- expressions and arguments without faults
@@ -180,7 +190,8 @@ sound_constant n = record { ranged = tt; few = omega arith }
 pub sound_word : (slot : ℕ) → Sound (frame_word slot)
 sound_word slot = record { ranged = tt; few = omega arith }
 
-pub whole_sound : (of : Names) → Each SlotFits of.slots → (fresh : Option ℕ) (names : List Named) (at : ℕ) (e : PlainExpr)
+pub whole_sound : (of : Names) → Each SlotFits of.slots → (fresh : Option ℕ) (names : List Named) (at : ℕ)
+    (e : PlainExpr)
     → IsTrue (has_none (whole_faults names at e)) → Sound (resolved of fresh e)
 whole_sound of each fresh names at e none = record {
   ranged = resolved_ranged of each fresh e;
@@ -193,7 +204,8 @@ whole_sound of each fresh names at e none = record {
         let flat = not_so (nat_lt 12 (expr_depth e)) at fault.Deep (none_left deep (expr_faults names at e) none) in
         grind (arith, nat_tests, flat)
 
-pub args_sound : (of : Names) → Each SlotFits of.slots → (fresh : Option ℕ) (names : List Named) (at : ℕ) (args : List PlainExpr)
+pub args_sound : (of : Names) → Each SlotFits of.slots → (fresh : Option ℕ) (names : List Named) (at : ℕ)
+    (args : List PlainExpr)
     → IsTrue (has_none (args_faults names at args)) → Each Sound (resolved_args of fresh args)
 args_sound of each fresh names at [] none = tt
 args_sound of each fresh names at (e ∷ args) none =
@@ -214,9 +226,12 @@ names_formed slots (between_two op a b) h within =
     and_from _ _ (names_formed slots a h.0 (omega (arith, within))) (names_formed slots b h.1 (omega (arith, within)))
 
 pub sound_formed : (slots : ℕ) (e : PlainSp) → Sound e → expr_words e ≤ slots → expr_formed slots e ≡ true
-sound_formed slots e sound within = and_from _ _ (names_formed slots e sound.ranged within) (le-leb (need e) 12 sound.few)
+sound_formed slots e sound within =
+    and_from _ _ (names_formed slots e sound.ranged within) (le-leb (need e) 12 sound.few)
 
-pub sound_args_formed : (slots : ℕ) (args : List PlainSp) → Each Sound args → args_words args ≤ slots → args_formed slots args ≡ true
+pub sound_args_formed : (slots : ℕ) (args : List PlainSp) → Each Sound args → args_words args ≤ slots
+    → args_formed slots args ≡ true
 sound_args_formed slots [] each within = refl
 sound_args_formed slots (e ∷ args) each within =
-    and_from _ _ (sound_formed slots e each.0 (omega (arith, within))) (sound_args_formed slots args each.1 (omega (arith, within)))
+    and_from _ _ (sound_formed slots e each.0 (omega (arith, within))) (sound_args_formed slots args each.1
+    (omega (arith, within)))

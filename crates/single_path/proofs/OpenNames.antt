@@ -1,4 +1,5 @@
--- The names that the checks know, beside what the same names stand for: what is found as a variable may be read and set as
+-- The names that the checks know, beside what the same names stand for: what is found as a variable may be read and
+-- set as
 -- one, and arrays as arrays. Each declaration keeps this.
 use Rattle.std.proofs.Common.{◌≡◌, ◌≢◌, ℕ, ◌+◌, Bool, true, false, if◌then◌else◌, List, [], ◌∷◌, ◌++◌, length, Option, Some, None, bytes_eq, refl, ap, sym, ◌∙◌, subst, append_assoc, append-nil}
 use Rattle.c_tree.specs.declared.checks.Meaning.{Meaning}
@@ -33,22 +34,27 @@ pub record Keeps (P : Use → Type 0) (names : List Named) (of : Names) : Type 0
 -- ---- names after a declaration
 
 -- the name that is declared is found, and another is found where it was before
-pub found_same : (names : List Named) (name text : List ℕ) (m : Meaning) → bytes_eq name text ≡ true → found text (declared names name m) ≡ Some m
+pub found_same : (names : List Named) (name text : List ℕ) (m : Meaning) → bytes_eq name text ≡ true
+    → found text (declared names name m) ≡ Some m
 found_same names name text m same =
     found_last text names (record { name = name; means = m }) ∙ ap (λ b. if b then Some m else found text names) same
 
-pub found_before : (names : List Named) (name text : List ℕ) (m : Meaning) (f : Option Meaning) → found text (declared names name m) ≡ f
+pub found_before : (names : List Named) (name text : List ℕ) (m : Meaning) (f : Option Meaning)
+    → found text (declared names name m) ≡ f
     → bytes_eq name text ≡ false → found text names ≡ f
 found_before names name text m f is other =
-    ap (λ b. if b then Some m else found text names) (sym other) ∙ sym (found_last text names (record { name = name; means = m })) ∙ is
+    ap (λ b. if b then Some m else found text names) (sym other)
+    ∙ sym (found_last text names (record { name = name; means = m })) ∙ is
 
 -- ---- names after a variable
 
 -- one variable more hides what is so called, and nothing else
-behind_variable : (Q : Slot → Type 0) (of : Names) (kind : Kind) (name text : List ℕ) → (bytes_eq name text ≡ false → Outside Q (named of text))
+after_variable : (Q : Slot → Type 0) (of : Names) (kind : Kind) (name text : List ℕ) → (bytes_eq name text ≡ false
+    → Outside Q (named of text))
     → Outside Q (named (with_variable of kind name) text)
-behind_variable Q of kind name text may =
-    subst (λ l. Outside Q (or_outside l)) (sym (last_pushed (λ x. x.name) 0 text of.variables v)) (by (bytes_eq name text) refl)
+after_variable Q of kind name text may =
+    subst (λ l. Outside Q (or_outside l)) (sym (last_pushed (λ x. x.name) 0 text of.variables v))
+    (by (bytes_eq name text) refl)
   where
     v : Variable
     v = record { name = name; unsigned = is_unsigned kind }
@@ -57,37 +63,42 @@ behind_variable Q of kind name text may =
     or_outside l = elim l as (λ _. Stands) [ Some f ↦ level f.at f.is.unsigned | None ↦ among_slots text of.slots ]
 
     by : (same : Bool) → bytes_eq name text ≡ same
-        → Outside Q (or_outside (if same then Some (record { at = 0 + length of.variables; is = v }) else among_variables text of.variables))
+        → Outside Q (or_outside (if same then Some (record { at = 0 + length of.variables; is = v }) else
+        among_variables text of.variables))
     by true same = tt
     by false other = may other
 
-pub keeps_variable : (P : Use → Type 0) (names : List Named) (of : Names) (kind : Kind) (name : List ℕ) → Keeps P names of
+pub keeps_variable : (P : Use → Type 0) (names : List Named) (of : Names) (kind : Kind) (name : List ℕ)
+    → Keeps P names of
     → Keeps P (declared names name means.Scalar) (with_variable of kind name)
 keeps_variable P names of kind name k = record {
   scalars = λ text is. (
-    behind_variable (CellRead P) of kind name text (λ other. (k.scalars text (before text means.Scalar is other)).0),
-    behind_variable (CellWritten P) of kind name text (λ other. (k.scalars text (before text means.Scalar is other)).1),
+    after_variable (CellRead P) of kind name text (λ other. (k.scalars text (before text means.Scalar is other)).0),
+    after_variable (CellWritten P) of kind name text (λ other. (k.scalars text (before text means.Scalar is other)).1),
   );
   arrays = λ text is. (
-    behind_variable (ArrayRead P) of kind name text (λ other. (k.arrays text (before text means.Array is other)).0),
-    behind_variable (ArrayWritten P) of kind name text (λ other. (k.arrays text (before text means.Array is other)).1),
+    after_variable (ArrayRead P) of kind name text (λ other. (k.arrays text (before text means.Array is other)).0),
+    after_variable (ArrayWritten P) of kind name text (λ other. (k.arrays text (before text means.Array is other)).1),
   );
   sends = k.sends;
 }
   where
-    before : (text : List ℕ) (m : Meaning) → found text (declared names name means.Scalar) ≡ Some m → bytes_eq name text ≡ false
+    before : (text : List ℕ) (m : Meaning) → found text (declared names name means.Scalar) ≡ Some m
+        → bytes_eq name text ≡ false
         → found text names ≡ Some m
     before text m is other = found_before names name text means.Scalar (Some m) is other
 
 -- after a statement
-pub keeps_after : (P : Use → Type 0) (names : List Named) (of : Names) (s : PlainStmt) → Keeps P names of → Keeps P (after names s) (names_after of s)
+pub keeps_after : (P : Use → Type 0) (names : List Named) (of : Names) (s : PlainStmt) → Keeps P names of
+    → Keeps P (after names s) (names_after of s)
 keeps_after P names of (plain.declared kind text r) k = keeps_variable P names of kind text k
 keeps_after P names of _ k = k
 
 -- ---- names after a function's name, and after its parameters
 
 -- the name of a function is no variable's and no array's
-pub keeps_function : (P : Use → Type 0) (names : List Named) (of : Names) (name : List ℕ) (c : ℕ) (gives inside : Bool) → Keeps P names of
+pub keeps_function : (P : Use → Type 0) (names : List Named) (of : Names) (name : List ℕ) (c : ℕ) (gives inside : Bool)
+    → Keeps P names of
     → Keeps P (declared names name (means.Function c gives inside)) of
 keeps_function P names of name c gives inside k = record {
   scalars = λ text is. k.scalars text (before text means.Scalar (λ e. absurd (cc)) is (bytes_eq name text) refl);
@@ -98,13 +109,16 @@ keeps_function P names of name c gives inside k = record {
     f : Meaning
     f = means.Function c gives inside
 
-    before : (text : List ℕ) (m : Meaning) → f ≢ m → found text (declared names name f) ≡ Some m → (b : Bool) → bytes_eq name text ≡ b
+    before : (text : List ℕ) (m : Meaning) → f ≢ m → found text (declared names name f) ≡ Some m → (b : Bool)
+        → bytes_eq name text ≡ b
         → found text names ≡ Some m
-    before text m apart is true same = let some : Some f ≡ Some m = sym (found_same names name text f same) ∙ is in absurd (apart (cc))
+    before text m apart is true same =
+        let some : Some f ≡ Some m = sym (found_same names name text f same) ∙ is in absurd (apart (cc))
     before text m apart is false other = found_before names name text f (Some m) is other
 
 -- parameters are variables after those that stand before them
-pub keeps_parameters : (P : Use → Type 0) (names : List Named) (slots : List Slot) (vs : List Variable) (ps : List Parameter)
+pub keeps_parameters : (P : Use → Type 0) (names : List Named) (slots : List Slot) (vs : List Variable)
+    (ps : List Parameter)
     → Keeps P names (record { slots = slots; variables = vs })
     → Keeps P (with_parameters names ps) (record { slots = slots; variables = vs ++ parameter_variables ps })
 keeps_parameters P names slots vs [] k =

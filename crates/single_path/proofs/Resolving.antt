@@ -1,4 +1,5 @@
--- What resolved names, operators, assignments and calls do with memories: no more than their parts, and what the slot of a
+-- What resolved names, operators, assignments and calls do with memories: no more than their parts, and what the slot
+-- of a
 -- name is read or set as.
 use Rattle.std.proofs.Common.{ℕ, Bool, true, false, if◌then◌else◌, List, [], ◌∷◌, Option, None, Some}
 use Rattle.std.specs.Prelude.{⊤}
@@ -46,18 +47,21 @@ variable_does P fresh (level at unsigned) may = by (is_fresh fresh at)
 variable_does P fresh (outside slot) may = may
 variable_does P fresh scope.nothing may = tt
 
-pub element_does : (P : Use → Type 0) (stands : Stands) (index : PlainSp) → Outside (ArrayRead P) stands → ExprDoes P index
+pub element_does : (P : Use → Type 0) (stands : Stands) (index : PlainSp) → Outside (ArrayRead P) stands
+    → ExprDoes P index
     → ExprDoes P (resolved_element stands index)
 element_does P (level at unsigned) index may does = tt
 element_does P (outside slot) index may does = (may, does)
 element_does P scope.nothing index may does = tt
 
-pub variable_target_does : (P : Use → Type 0) (stands : Stands) → Outside (CellWritten P) stands → ResultDoes P (variable_target stands)
+pub variable_target_does : (P : Use → Type 0) (stands : Stands) → Outside (CellWritten P) stands
+    → ResultDoes P (variable_target stands)
 variable_target_does P (level at unsigned) may = tt
 variable_target_does P (outside slot) may = may
 variable_target_does P scope.nothing may = tt
 
-pub element_target_does : (P : Use → Type 0) (stands : Stands) (index : PlainSp) → Outside (ArrayWritten P) stands → ExprDoes P index
+pub element_target_does : (P : Use → Type 0) (stands : Stands) (index : PlainSp) → Outside (ArrayWritten P) stands
+    → ExprDoes P index
     → ResultDoes P (element_target stands index)
 element_target_does P (level at unsigned) index may does = tt
 element_target_does P (outside slot) index may does = (may, does)
@@ -69,7 +73,8 @@ pub between_does : (P : Use → Type 0) (op : BinaryOp) (u : Bool) (a b : PlainS
     → ExprDoes P (resolved_between op u a b)
 between_does P op u a b left right = by (is_exchanged op)
   where
-    by : (exchanged : Bool) → ExprDoes P (if exchanged then between_two (operator_of op u) b a else between_two (operator_of op u) a b)
+    by : (exchanged : Bool) → ExprDoes P (if exchanged then between_two (operator_of op u) b a else between_two
+        (operator_of op u) a b)
     by true = (right, left)
     by false = (left, right)
 
@@ -93,7 +98,8 @@ pub sets_do : (P : Use → Type 0) (target : Option PlainTarget) (e : PlainSp) �
 sets_do P None e may does = tt
 sets_do P (Some target) e may does = ((may, does), tt)
 
-pub numbered_does : (P : Use → Type 0) (k : Option ℕ) (args : List PlainSp) (target : Option PlainTarget) → Each (ExprDoes P) args
+pub numbered_does : (P : Use → Type 0) (k : Option ℕ) (args : List PlainSp) (target : Option PlainTarget)
+    → Each (ExprDoes P) args
     → ResultDoes P target → Do P (numbered_call k args target)
 numbered_does P None args target given may = sets_do P target (constant 0) may tt
 numbered_does P (Some k) args target given may = ((given, may), tt)
@@ -102,7 +108,8 @@ pub actions_joined : (P : Use → Type 0) (xs ys : PlainActions) → Do P xs →
 actions_joined P no_action ys hx hy = hy
 actions_joined P (action a xs) ys hx hy = (hx.0, actions_joined P xs ys hx.1 hy)
 
-pub choice_does : (P : Use → Type 0) (branches : PlainBranches) (otherwise : PlainActions) → BranchesDo P branches → Do P otherwise
+pub choice_does : (P : Use → Type 0) (branches : PlainBranches) (otherwise : PlainActions) → BranchesDo P branches
+    → Do P otherwise
     → Do P (choice branches otherwise)
 choice_does P no_branch otherwise some last = last
 choice_does P (branch condition body rest) otherwise some last = ((some, last), tt)

@@ -22,10 +22,13 @@ joined_twice xs a b = joined_joined xs (one a) (one b)
 pub joined_one : (xs ys : PlainStmts) (a : PlainStmt) → joined (joined xs ys) (one a) ≡ joined xs (joined ys (one a))
 joined_one xs ys a = joined_joined xs ys (one a)
 
-pub joined_two : (xs ys : PlainStmts) (a b : PlainStmt) → joined (joined (joined xs ys) (one a)) (one b) ≡ joined xs (joined ys (stmt a (one b)))
+pub joined_two : (xs ys : PlainStmts) (a b : PlainStmt) → joined (joined (joined xs ys) (one a)) (one b)
+    ≡ joined xs (joined ys (stmt a (one b)))
 joined_two xs ys a b = joined_twice (joined xs ys) a b ∙ joined_joined xs ys (stmt a (one b))
 
-pub three_more : (xs ys : PlainStmts) (a b c : PlainStmt) → joined (joined (joined (joined xs (one a)) (one b)) (one c)) ys ≡ joined xs (stmt a (stmt b (stmt c ys)))
+pub three_more : (xs ys : PlainStmts) (a b c : PlainStmt) → joined (joined (joined (joined xs (one a)) (one b))
+    (one c)) ys ≡ joined xs (stmt a (stmt b (stmt c ys)))
 three_more xs ys a b c =
-    joined_joined (joined (joined xs (one a)) (one b)) (one c) ys ∙ joined_joined (joined xs (one a)) (one b) (stmt c ys)
+    joined_joined (joined (joined xs (one a)) (one b)) (one c) ys
+    ∙ joined_joined (joined xs (one a)) (one b) (stmt c ys)
     ∙ joined_joined xs (one a) (stmt b (stmt c ys))

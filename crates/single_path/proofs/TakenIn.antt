@@ -34,33 +34,42 @@ use Rattle.single_path.proofs.Whole.{single_is_formed}
 
 -- ---- the frames that the checks count
 
-frames_small : (cores own : ℕ) (names : List Named) (at : ℕ) (items : List PlainItem) → IsTrue (has_none (items_faults cores own names at items)) → (k : ℕ)
+frames_small : (cores own : ℕ) (names : List Named) (at : ℕ) (items : List PlainItem)
+    → IsTrue (has_none (items_faults cores own names at items)) → (k : ℕ)
     → slice_index (frames_in items) k ≤ 120
 frames_small cores own names at [] none k = omega arith
 frames_small cores own names at (global g ∷ items) none k =
-    frames_small cores own (with_item names (global g)) (at + item_size (global g)) items (none_right (item_faults cores own names at (global g)) _ none) k
+    frames_small cores own (with_item names (global g)) (at + item_size (global g)) items
+    (none_right (item_faults cores own names at (global g)) _ none) k
 frames_small cores own names at (function kind text void_word parameters body ∷ items) none zero =
     let f = function kind text void_word parameters body in
     let name_at = at + length (gives_tokens kind) in
     (named_small names name_at text parameters body
-    (none_left (named_faults names name_at text parameters body) _ (none_left (item_faults cores own names at f) _ none))).frame
+    (none_left (named_faults names name_at text parameters body) _ (none_left (item_faults cores own names at f)
+    _ none))).frame
 frames_small cores own names at (function kind text void_word parameters body ∷ items) none (suc k) =
     let f = function kind text void_word parameters body in
-    frames_small cores own (with_item names f) (at + item_size f) items (none_right (item_faults cores own names at f) _ none) k
+    frames_small cores own (with_item names f) (at + item_size f) items
+    (none_right (item_faults cores own names at f) _ none) k
 
-roomy : (cores own : ℕ) (items : List PlainItem) → IsValid items cores own → Roomy (frames_in items) (with_calls items).functions (length (with_calls items).functions)
+roomy : (cores own : ℕ) (items : List PlainItem) → IsValid items cores own
+    → Roomy (frames_in items) (with_calls items).functions (length (with_calls items).functions)
 roomy cores own items valid = record {
   within = λ k below. frames_within (layout_of items) [] items k below;
-  small = λ k below. (let room = frames_small cores own given 0 items (ends_of cores own items valid).each k in omega (arith, room));
+  small = λ k below. (let room = frames_small cores own given 0 items (ends_of cores own items valid).each k in
+      omega (arith, room));
 }
 
 -- ---- what is promised
 
-pub taken_is_formed : (cores own : ℕ) (items : List PlainItem) → cores ≤ 16 → IsValid items cores own → is_formed (single items) ≡ true
+pub taken_is_formed : (cores own : ℕ) (items : List PlainItem) → cores ≤ 16 → IsValid items cores own
+    → is_formed (single items) ≡ true
 taken_is_formed cores own items few valid =
-    unit_formed (weights_in items) (frames_in items) (with_calls items) (roomy cores own items valid) (single_is_formed cores own items few valid)
+    unit_formed (weights_in items) (frames_in items) (with_calls items) (roomy cores own items valid)
+    (single_is_formed cores own items few valid)
 
-pub taken_meant : (cores own : ℕ) (items : List PlainItem) → IsValid items cores own → (input : List ℕ) (shared comm : ℕ → ℕ)
+pub taken_meant : (cores own : ℕ) (items : List PlainItem) → IsValid items cores own → (input : List ℕ)
+    (shared comm : ℕ → ℕ)
     → IsMeant (straight (single items) input shared comm) (meaning items input shared comm)
 taken_meant cores own items valid input shared comm =
     let same = taken_straight (weights_in items) (frames_in items) (with_calls items) input shared comm in
@@ -68,7 +77,8 @@ taken_meant cores own items valid input shared comm =
     record { value = ap (λ g. g.value) same ∙ m.value; world = ap (λ g. g.world) same ∙ m.world }
 
 -- a function keeps to its weight and its frame
-kept_at : (cores own : ℕ) (items : List PlainItem) → cores ≤ 16 → IsValid items cores own → (k : ℕ) → k < length (with_calls items).functions
+kept_at : (cores own : ℕ) (items : List PlainItem) → cores ≤ 16 → IsValid items cores own → (k : ℕ)
+    → k < length (with_calls items).functions
     → (cost (slice_index_or (single items).functions k no_function) ≤ slice_index (weights_in items) k)
     × ((slice_index_or (single items).functions k no_function).frame ≤ slice_index (frames_in items) k)
 kept_at cores own items few valid k below =
@@ -79,23 +89,28 @@ kept_at cores own items few valid k below =
     let f = slice_index_or fs k no_function in
     let formed = earlier_one fs k (length fs) below (functions_are_formed cores own items few valid) in
     let kept = function_kept before most room f (parts_of_function fs k f formed).mask in
-    let is = first_at (weights_in items) (frames_in items) fs (length fs) k below ∙ taken_grown before fs k most room f (first_length (weights_in items) (frames_in items) fs k) formed in
+    let is = first_at (weights_in items) (frames_in items) fs (length fs) k below
+    ∙ taken_grown before fs k most room f (first_length (weights_in items) (frames_in items) fs k) formed in
     let light = kept.cost (costs_within (layout_of items) [] items k below) in
     let small = kept.frame (frames_within (layout_of items) [] items k below) in
     let costs = ap cost is in
     let frames = ap (λ (g : PlainFunction). g.frame) is in
     (omega (arith, light, costs), omega (arith, small, frames))
 
-pub taken_costs : (cores own : ℕ) (items : List PlainItem) → cores ≤ 16 → IsValid items cores own → (k : ℕ) → k < length (single items).functions
+pub taken_costs : (cores own : ℕ) (items : List PlainItem) → cores ≤ 16 → IsValid items cores own → (k : ℕ)
+    → k < length (single items).functions
     → cost (slice_index_or (single items).functions k no_function) ≤ slice_index (weights_in items) k
 taken_costs cores own items few valid k below =
-    let many = first_length (weights_in items) (frames_in items) (with_calls items).functions (length (with_calls items).functions) in
+    let many = first_length (weights_in items) (frames_in items) (with_calls items).functions
+    (length (with_calls items).functions) in
     (kept_at cores own items few valid k (omega (arith, below, many))).0
 
-pub taken_frames : (cores own : ℕ) (items : List PlainItem) → cores ≤ 16 → IsValid items cores own → (k : ℕ) → k < length (single items).functions
+pub taken_frames : (cores own : ℕ) (items : List PlainItem) → cores ≤ 16 → IsValid items cores own → (k : ℕ)
+    → k < length (single items).functions
     → (slice_index_or (single items).functions k no_function).frame ≤ slice_index (frames_in items) k
 taken_frames cores own items few valid k below =
-    let many = first_length (weights_in items) (frames_in items) (with_calls items).functions (length (with_calls items).functions) in
+    let many = first_length (weights_in items) (frames_in items) (with_calls items).functions
+    (length (with_calls items).functions) in
     (kept_at cores own items few valid k (omega (arith, below, many))).1
 
 -- ---- what is used
@@ -125,13 +140,19 @@ no_more : (q : Use → Bool) (Z : Type 0) (items : List PlainItem) → (list_any
     → list_any q (uses_of (single items)) ≡ true → Z
 no_more q Z items so =
     any_so q Z (uses_of (single items))
-    (uses_each (λ x. q x ≡ true → Z) (weights_in items) (frames_in items) (with_calls items) (each_so q Z (uses_of (with_calls items)) so))
+    (uses_each (λ x. q x ≡ true → Z) (weights_in items) (frames_in items) (with_calls items)
+    (each_so q Z (uses_of (with_calls items)) so))
 
-pub taken_reads : (a : Array) (items : List PlainItem) → list_any (reads_region (memory_of a)) (uses_of (single items)) ≡ true → mentions a items ≡ true
-taken_reads a items = no_more (reads_region (memory_of a)) (mentions a items ≡ true) items (reads_only_mentioned a items)
+pub taken_reads : (a : Array) (items : List PlainItem) → list_any (reads_region (memory_of a)) (uses_of (single items))
+    ≡ true → mentions a items ≡ true
+taken_reads a items =
+    no_more (reads_region (memory_of a)) (mentions a items ≡ true) items (reads_only_mentioned a items)
 
-pub taken_writes : (a : Array) (items : List PlainItem) → list_any (writes_region (memory_of a)) (uses_of (single items)) ≡ true → assigns a items ≡ true
-taken_writes a items = no_more (writes_region (memory_of a)) (assigns a items ≡ true) items (writes_only_assigned a items)
+pub taken_writes : (a : Array) (items : List PlainItem) → list_any (writes_region (memory_of a)) (uses_of
+    (single items)) ≡ true → assigns a items ≡ true
+taken_writes a items =
+    no_more (writes_region (memory_of a)) (assigns a items ≡ true) items (writes_only_assigned a items)
 
-pub taken_sends : (core : ℕ) (items : List PlainItem) → list_any (is_send_to core) (uses_of (single items)) ≡ true → sends_to core items ≡ true
+pub taken_sends : (core : ℕ) (items : List PlainItem) → list_any (is_send_to core) (uses_of (single items)) ≡ true
+    → sends_to core items ≡ true
 taken_sends core items = no_more (is_send_to core) (sends_to core items ≡ true) items (sends_only_sent core items)

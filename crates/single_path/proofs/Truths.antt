@@ -19,7 +19,8 @@ before_again unary.Minus a is = absurd (cc)
 before_again unary.Complement a is = absurd (cc)
 before_again unary.Not a is = flag_again _
 
-between_again : (op : SpBinary) (a b : ℕ) → is_test op ≡ true → binary_value op a b ≡ flag (is_true (binary_value op a b))
+between_again : (op : SpBinary) (a b : ℕ) → is_test op ≡ true → binary_value op a b
+    ≡ flag (is_true (binary_value op a b))
 between_again binary.Or a b is = flag_again _
 between_again binary.And a b is = flag_again _
 between_again binary.Equal a b is = flag_again _

@@ -1,4 +1,5 @@
--- What the tree of a program does with memories comes from the uses of the program: what the tree reads the program reads,
+-- What the tree of a program does with memories comes from the uses of the program: what the tree reads the program
+-- reads,
 -- what it writes the program sets, and where it sends the program sends.
 use Rattle.std.proofs.Common.{◌≡◌, inl, inr, ℕ, Bool, true, false, ◌||◌, List, [], ◌∷◌, ◌++◌, length, Option, None, Some, refl, ap, sym, ◌∙◌}
 use Rattle.std.specs.List.{AllByRecursion as Each, list_any}
@@ -41,30 +42,35 @@ Allows P (sends core) = P (tree.sends_to core)
 -- ---- expressions and arguments
 
 mutual
-  expr_used : (P : Use → Type 0) (names : Names) (fresh : Option ℕ) (e : PlainExpr) → Each (Allows P) (expr_uses names e)
+  expr_used : (P : Use → Type 0) (names : Names) (fresh : Option ℕ) (e : PlainExpr)
+      → Each (Allows P) (expr_uses names e)
       → ExprDoes P (resolved names fresh e)
   expr_used P names fresh (plain.chain at first rest) all =
       steps_used P names fresh (expr_unsigned names first) (resolved names fresh first) rest
       (expr_used P names fresh first (each_first (Allows P) (expr_uses names first) (steps_uses names rest) all))
       (each_rest (Allows P) (expr_uses names first) (steps_uses names rest) all)
-  expr_used P names fresh (plain.unary ops of) all = signs_do P ops (resolved names fresh of) (expr_used P names fresh of all)
+  expr_used P names fresh (plain.unary ops of) all =
+      signs_do P ops (resolved names fresh of) (expr_used P names fresh of all)
   expr_used P names fresh (plain.number n unsigned) all = tt
   expr_used P names fresh (plain.name text) all = variable_does P fresh (named names text) all.0.0
   expr_used P names fresh (plain.element text index) all =
       element_does P (named names text) (resolved names fresh index) all.0.1 (expr_used P names fresh index all.1)
   expr_used P names fresh (plain.paren of) all = expr_used P names fresh of all
 
-  steps_used : (P : Use → Type 0) (names : Names) (fresh : Option ℕ) (u : Bool) (a : PlainSp) (steps : PlainSteps) → ExprDoes P a
+  steps_used : (P : Use → Type 0) (names : Names) (fresh : Option ℕ) (u : Bool) (a : PlainSp) (steps : PlainSteps)
+      → ExprDoes P a
       → Each (Allows P) (steps_uses names steps) → ExprDoes P (resolved_steps names fresh u a steps)
   steps_used P names fresh u a plain.no_step does all = does
   steps_used P names fresh u a (plain.step op operand rest) does all =
       let v = works_unsigned op u (expr_unsigned names operand) in
       let b = resolved names fresh operand in
       steps_used P names fresh (gives_unsigned op u (expr_unsigned names operand)) (resolved_between op v a b) rest
-      (between_does P op v a b does (expr_used P names fresh operand (each_first (Allows P) (expr_uses names operand) (steps_uses names rest) all)))
+      (between_does P op v a b does (expr_used P names fresh operand (each_first (Allows P) (expr_uses names operand)
+      (steps_uses names rest) all)))
       (each_rest (Allows P) (expr_uses names operand) (steps_uses names rest) all)
 
-args_used : (P : Use → Type 0) (names : Names) (fresh : Option ℕ) (args : List PlainExpr) → Each (Allows P) (args_uses names args)
+args_used : (P : Use → Type 0) (names : Names) (fresh : Option ℕ) (args : List PlainExpr)
+    → Each (Allows P) (args_uses names args)
     → Each (ExprDoes P) (resolved_args names fresh args)
 args_used P names fresh [] all = tt
 args_used P names fresh (e ∷ args) all = (
@@ -74,41 +80,51 @@ args_used P names fresh (e ∷ args) all = (
 
 -- ---- right sides and heads of loops
 
-right_used : (P : Use → Type 0) (fs : List (List ℕ)) (names : Names) (fresh : Option ℕ) (target : Option PlainTarget) (r : PlainRight)
+right_used : (P : Use → Type 0) (fs : List (List ℕ)) (names : Names) (fresh : Option ℕ) (target : Option PlainTarget)
+    (r : PlainRight)
     → ResultDoes P target → Each (Allows P) (right_uses names r) → Do P (resolved_right fs names fresh target r)
-right_used P fs names fresh target (plain.value e) may all = sets_do P target (resolved names fresh e) may (expr_used P names fresh e all)
+right_used P fs names fresh target (plain.value e) may all =
+    sets_do P target (resolved names fresh e) may (expr_used P names fresh e all)
 right_used P fs names fresh target (plain.call text args) may all =
     numbered_does P (number_of text fs) (resolved_args names fresh args) target (args_used P names fresh args all) may
 
 head_used : (P : Use → Type 0) (names : Names) (head : PlainHead) → Each (Allows P) (head_uses names head)
-    → Do P (maybe_sets (resolved_begin names head)) × ExprDoes P (resolved_condition names head) × StepDoes P (resolved_next names head)
+    → Do P (maybe_sets (resolved_begin names head)) × ExprDoes P (resolved_condition names head)
+    × StepDoes P (resolved_next names head)
 head_used P names (plain.iterations_while condition) all = (tt, expr_used P names None condition all, tt)
 head_used P names (plain.iterations_for first from condition to_set to) all =
     let last = sets (named names to_set) ∷ expr_uses names to in
     let others = each_rest (Allows P) (expr_uses names from) (expr_uses names condition ++ last) all.1 in
     let stepped = each_rest (Allows P) (expr_uses names condition) last others in (
-      sets_do P (variable_target (named names first)) (resolved names None from) (variable_target_does P (named names first) all.0.0)
-          (expr_used P names None from (each_first (Allows P) (expr_uses names from) (expr_uses names condition ++ last) all.1)),
+      sets_do P (variable_target (named names first)) (resolved names None from)
+          (variable_target_does P (named names first) all.0.0)
+          (expr_used P names None from (each_first (Allows P) (expr_uses names from) (expr_uses names condition
+          ++ last) all.1)),
       expr_used P names None condition (each_first (Allows P) (expr_uses names condition) last others),
-      assigned_does P (variable_target (named names to_set)) (resolved names None to) (variable_target_does P (named names to_set) stepped.0.0)
+      assigned_does P (variable_target (named names to_set)) (resolved names None to)
+          (variable_target_does P (named names to_set) stepped.0.0)
           (expr_used P names None to stepped.1),
     )
 
 -- ---- statements
 
 mutual
-  stmt_used : (P : Use → Type 0) (fs : List (List ℕ)) (names : Names) (s : PlainStmt) → Each (Allows P) (stmt_uses names s)
+  stmt_used : (P : Use → Type 0) (fs : List (List ℕ)) (names : Names) (s : PlainStmt)
+      → Each (Allows P) (stmt_uses names s)
       → Do P (resolved_stmt fs names s)
   stmt_used P fs names (plain.declared kind text None) all = ((tt, tt), tt)
   stmt_used P fs names (plain.declared kind text (Some r)) all =
       let at = length names.variables in
       right_used P fs (with_variable names kind text) (Some at) (Some (to_level at)) r tt all
   stmt_used P fs names (plain.set text r) all =
-      right_used P fs names None (variable_target (named names text)) r (variable_target_does P (named names text) all.0.0) all.1
+      right_used P fs names None (variable_target (named names text)) r
+      (variable_target_does P (named names text) all.0.0) all.1
   stmt_used P fs names (plain.set_element text index r) all =
       let i = resolved names None index in
-      let inner = expr_used P names None index (each_first (Allows P) (expr_uses names index) (right_uses names r) all.1) in
-      right_used P fs names None (element_target (named names text) i) r (element_target_does P (named names text) i all.0.1 inner)
+      let inner = expr_used P names None index (each_first (Allows P) (expr_uses names index)
+      (right_uses names r) all.1) in
+      right_used P fs names None (element_target (named names text) i) r
+      (element_target_does P (named names text) i all.0.1 inner)
       (each_rest (Allows P) (expr_uses names index) (right_uses names r) all.1)
   stmt_used P fs names (plain.called text args) all =
       numbered_does P (number_of text fs) (resolved_args names None args) None (args_used P names None args all) tt
@@ -116,7 +132,8 @@ mutual
       let others = each_rest (Allows P) (expr_uses names from) (expr_uses names to ++ expr_uses names count) all.1 in (
         (
           all.0,
-          expr_used P names None from (each_first (Allows P) (expr_uses names from) (expr_uses names to ++ expr_uses names count) all.1),
+          expr_used P names None from (each_first (Allows P) (expr_uses names from) (expr_uses names to
+              ++ expr_uses names count) all.1),
           expr_used P names None to (each_first (Allows P) (expr_uses names to) (expr_uses names count) others),
           expr_used P names None count (each_rest (Allows P) (expr_uses names to) (expr_uses names count) others),
         ),
@@ -125,17 +142,28 @@ mutual
   stmt_used P fs names (plain.chosen arms otherwise) all =
       choice_does P (resolved_arms fs names arms) (resolved_otherwise fs names otherwise)
       (arms_used P fs names arms (each_first (Allows P) (arms_uses names arms) (otherwise_uses names otherwise) all))
-      (otherwise_used P fs names otherwise (each_rest (Allows P) (arms_uses names arms) (otherwise_uses names otherwise) all))
+      (otherwise_used P fs names otherwise (each_rest (Allows P) (arms_uses names arms)
+      (otherwise_uses names otherwise) all))
   stmt_used P fs names (plain.looped bound head body) all =
       let parts = head_used P names head (each_first (Allows P) (head_uses names head) (block_uses names body) all) in
       actions_joined P (maybe_sets (resolved_begin names head))
-      (actions.one (actions.iterations (most_iterations bound) (resolved_condition names head) (resolved_block fs names body) (resolved_next names head)))
-      parts.0 ((parts.1, block_used P fs names body (each_rest (Allows P) (head_uses names head) (block_uses names body) all), parts.2), tt)
+      (actions.one (actions.iterations (most_iterations bound) (resolved_condition names head)
+      (resolved_block fs names body) (resolved_next names head)))
+      parts.0 (
+        (
+          parts.1,
+          block_used P fs names body (each_rest (Allows P) (head_uses names head) (block_uses names body)
+              all),
+          parts.2,
+        ),
+        tt,
+      )
   stmt_used P fs names (plain.returned (Some e)) all = (expr_used P names None e all, tt)
   stmt_used P fs names (plain.inner body) all = block_used P fs names body all
   stmt_used P fs names _ all = (tt, tt)
 
-  block_used : (P : Use → Type 0) (fs : List (List ℕ)) (names : Names) (body : PlainBlock) → Each (Allows P) (block_uses names body)
+  block_used : (P : Use → Type 0) (fs : List (List ℕ)) (names : Names) (body : PlainBlock)
+      → Each (Allows P) (block_uses names body)
       → Do P (resolved_block fs names body)
   block_used P fs names plain.no_stmt all = tt
   block_used P fs names (plain.stmt s rest) all =
@@ -144,12 +172,15 @@ mutual
       (stmt_used P fs names s (each_first (Allows P) (stmt_uses names s) (block_uses behind rest) all))
       (block_used P fs behind rest (each_rest (Allows P) (stmt_uses names s) (block_uses behind rest) all))
 
-  arms_used : (P : Use → Type 0) (fs : List (List ℕ)) (names : Names) (arms : PlainArms) → Each (Allows P) (arms_uses names arms)
+  arms_used : (P : Use → Type 0) (fs : List (List ℕ)) (names : Names) (arms : PlainArms)
+      → Each (Allows P) (arms_uses names arms)
       → BranchesDo P (resolved_arms fs names arms)
   arms_used P fs names plain.no_arm all = tt
   arms_used P fs names (plain.arm condition body rest) all =
-      let others = each_rest (Allows P) (expr_uses names condition) (block_uses names body ++ arms_uses names rest) all in (
-        expr_used P names None condition (each_first (Allows P) (expr_uses names condition) (block_uses names body ++ arms_uses names rest) all),
+      let others =
+      each_rest (Allows P) (expr_uses names condition) (block_uses names body ++ arms_uses names rest) all in (
+        expr_used P names None condition (each_first (Allows P) (expr_uses names condition) (block_uses names body
+            ++ arms_uses names rest) all),
         block_used P fs names body (each_first (Allows P) (block_uses names body) (arms_uses names rest) others),
         arms_used P fs names rest (each_rest (Allows P) (block_uses names body) (arms_uses names rest) others),
       )
@@ -161,7 +192,8 @@ mutual
 
 -- ---- programs
 
-body_used : (P : Use → Type 0) (fs : List (List ℕ)) (names : Names) (body : List PlainStmt) → Each (Allows P) (body_uses names body)
+body_used : (P : Use → Type 0) (fs : List (List ℕ)) (names : Names) (body : List PlainStmt)
+    → Each (Allows P) (body_uses names body)
     → Do P (resolved_body fs names body)
 body_used P fs names [] all = tt
 body_used P fs names (s ∷ rest) all =
@@ -170,21 +202,25 @@ body_used P fs names (s ∷ rest) all =
     (stmt_used P fs names s (each_first (Allows P) (stmt_uses names s) (body_uses behind rest) all))
     (body_used P fs behind rest (each_rest (Allows P) (stmt_uses names s) (body_uses behind rest) all))
 
-items_used : (P : Use → Type 0) (slots : List Slot) (fs : List (List ℕ)) (items : List PlainItem) → Each (Allows P) (items_uses slots items)
+items_used : (P : Use → Type 0) (slots : List Slot) (fs : List (List ℕ)) (items : List PlainItem)
+    → Each (Allows P) (items_uses slots items)
     → Each (Do P) (resolved_items slots fs items)
 items_used P slots fs [] all = tt
 items_used P slots fs (plain.global of ∷ items) all = items_used P slots fs items all
 items_used P slots fs (plain.function kind its_name void_word parameters body ∷ items) all =
     let names : Names = record { slots = slots; variables = parameter_variables parameters } in (
       body_used P fs names body (each_first (Allows P) (body_uses names body) (items_uses slots items) all),
-      items_used P slots (fs ++ its_name ∷ []) items (each_rest (Allows P) (body_uses names body) (items_uses slots items) all),
+      items_used P slots (fs ++ its_name ∷ []) items (each_rest (Allows P) (body_uses names body)
+          (items_uses slots items) all),
     )
 
 -- ---- each use of the tree comes from one of the program
 
 allowed : (P : Use → Type 0) (s : source.Use) → ((u : Use) → IsMadeTo s u → P u) → Allows P s
-allowed P (reads (outside slot)) all = (all (reads_cell (slot_cell slot)) (slot, refl, refl), all (reads_array (slot_array slot)) (slot, refl, refl))
-allowed P (sets (outside slot)) all = (all (writes_cell (slot_cell slot)) (slot, refl, refl), all (writes_array (slot_array slot)) (slot, refl, refl))
+allowed P (reads (outside slot)) all =
+    (all (reads_cell (slot_cell slot)) (slot, refl, refl), all (reads_array (slot_array slot)) (slot, refl, refl))
+allowed P (sets (outside slot)) all =
+    (all (writes_cell (slot_cell slot)) (slot, refl, refl), all (writes_array (slot_array slot)) (slot, refl, refl))
 allowed P (sends core) all = all (tree.sends_to core) refl
 allowed P _ all = (tt, tt)
 
@@ -202,7 +238,8 @@ uses_come_from items =
 -- ---- what the tree reads and writes of the arrays that a task is given, and where it sends
 
 -- where a use of the tree passes a test, so does one of the program that it comes from
-one_from : (test : Use → Bool) (other : source.Use → Bool) → ((s : source.Use) (u : Use) → IsMadeTo s u → test u ≡ true → other s ≡ true)
+one_from : (test : Use → Bool) (other : source.Use → Bool) → ((s : source.Use) (u : Use) → IsMadeTo s u → test u ≡ true
+    → other s ≡ true)
     → (ss : List source.Use) (u : Use) → ComesFrom ss u → test u ≡ true → list_any other ss ≡ true
 one_from test other each [] u from is = absurd from
 one_from test other each (s ∷ ss) u (inl made) is = ap (λ b. b || list_any other ss) (each s u made is)
@@ -212,12 +249,16 @@ one_from test other each (s ∷ ss) u (inr from) is = by (other s) (one_from tes
     by true later = refl
     by false later = later
 
-any_from : (test : Use → Bool) (other : source.Use → Bool) → ((s : source.Use) (u : Use) → IsMadeTo s u → test u ≡ true → other s ≡ true)
-    → (ss : List source.Use) (us : List Use) → Each (ComesFrom ss) us → list_any test us ≡ true → list_any other ss ≡ true
+any_from : (test : Use → Bool) (other : source.Use → Bool) → ((s : source.Use) (u : Use) → IsMadeTo s u → test u ≡ true
+    → other s ≡ true)
+    → (ss : List source.Use) (us : List Use) → Each (ComesFrom ss) us → list_any test us ≡ true
+    → list_any other ss ≡ true
 any_from test other each ss [] from is = absurd (cc)
-any_from test other each ss (u ∷ us) from is = by (test u) refl is (λ later. any_from test other each ss us from.1 later)
+any_from test other each ss (u ∷ us) from is =
+    by (test u) refl is (λ later. any_from test other each ss us from.1 later)
   where
-    by : (b : Bool) → test u ≡ b → (b || list_any test us) ≡ true → (list_any test us ≡ true → list_any other ss ≡ true) → list_any other ss ≡ true
+    by : (b : Bool) → test u ≡ b → (b || list_any test us) ≡ true → (list_any test us ≡ true → list_any other ss ≡ true)
+        → list_any other ss ≡ true
     by true here is rest = one_from test other each ss u from.0 here
     by false here is rest = rest is
 
@@ -225,39 +266,52 @@ any_from test other each ss (u ∷ us) from is = by (test u) refl is (λ later. 
 slot_at : (a : Array) (s : Slot) → same_region (memory_of a) (slot_region s) ≡ true → is_at a s.cell ≡ true
 slot_at a s is = by a s.cell is
   where
-    by : (a : Array) (c : Cell) → same_region (memory_of a) (slot_region (record s { cell = c })) ≡ true → is_at a c ≡ true
+    by : (a : Array) (c : Cell) → same_region (memory_of a) (slot_region (record s { cell = c })) ≡ true
+        → is_at a c ≡ true
     by comm_array (cell.Comm word) is = refl
     by shared_array (cell.Shared word) is = refl
     by a c is = absurd (cc)
 
-read_made : (a : Array) (s : source.Use) (u : Use) → IsMadeTo s u → reads_region (memory_of a) u ≡ true → is_mention a s ≡ true
+read_made : (a : Array) (s : source.Use) (u : Use) → IsMadeTo s u → reads_region (memory_of a) u ≡ true
+    → is_mention a s ≡ true
 read_made a s (reads_cell c) made is =
-    ap (is_mention a) made.1 ∙ slot_at a made.0 (ap (λ (x : SpCell). same_region (memory_of a) x.region) (sym made.2) ∙ is)
+    ap (is_mention a) made.1 ∙ slot_at a made.0 (ap (λ (x : SpCell). same_region (memory_of a) x.region) (sym made.2)
+    ∙ is)
 read_made a s (reads_array c) made is =
-    ap (is_mention a) made.1 ∙ slot_at a made.0 (ap (λ (x : SpArray). same_region (memory_of a) x.region) (sym made.2) ∙ is)
+    ap (is_mention a) made.1 ∙ slot_at a made.0 (ap (λ (x : SpArray). same_region (memory_of a) x.region) (sym made.2)
+    ∙ is)
 read_made a s u made is = absurd (cc)
 
-write_made : (a : Array) (s : source.Use) (u : Use) → IsMadeTo s u → writes_region (memory_of a) u ≡ true → is_assignment a s ≡ true
+write_made : (a : Array) (s : source.Use) (u : Use) → IsMadeTo s u → writes_region (memory_of a) u ≡ true
+    → is_assignment a s ≡ true
 write_made a s (writes_cell c) made is =
-    ap (is_assignment a) made.1 ∙ slot_at a made.0 (ap (λ (x : SpCell). same_region (memory_of a) x.region) (sym made.2) ∙ is)
+    ap (is_assignment a) made.1 ∙ slot_at a made.0 (ap (λ (x : SpCell). same_region (memory_of a) x.region) (sym made.2)
+    ∙ is)
 write_made a s (writes_array c) made is =
-    ap (is_assignment a) made.1 ∙ slot_at a made.0 (ap (λ (x : SpArray). same_region (memory_of a) x.region) (sym made.2) ∙ is)
+    ap (is_assignment a) made.1 ∙ slot_at a made.0 (ap (λ (x : SpArray). same_region (memory_of a) x.region)
+    (sym made.2) ∙ is)
 write_made a s u made is = absurd (cc)
 
 send_made : (core : ℕ) (s : source.Use) (u : Use) → IsMadeTo s u → is_send_to core u ≡ true → is_send core s ≡ true
 send_made core s (tree.sends_to to) made is = ap (is_send core) made ∙ is
 send_made core s u made is = absurd (cc)
 
-pub reads_only_mentioned : (a : Array) (items : List PlainItem) → list_any (reads_region (memory_of a)) (uses_of (with_calls items)) ≡ true
+pub reads_only_mentioned : (a : Array) (items : List PlainItem) → list_any (reads_region (memory_of a)) (uses_of
+    (with_calls items)) ≡ true
     → mentions a items ≡ true
 reads_only_mentioned a items is =
-    any_from (reads_region (memory_of a)) (is_mention a) (read_made a) (program_uses items) (uses_of (with_calls items)) (uses_come_from items) is
+    any_from (reads_region (memory_of a)) (is_mention a) (read_made a) (program_uses items) (uses_of (with_calls items))
+    (uses_come_from items) is
 
-pub writes_only_assigned : (a : Array) (items : List PlainItem) → list_any (writes_region (memory_of a)) (uses_of (with_calls items)) ≡ true
+pub writes_only_assigned : (a : Array) (items : List PlainItem) → list_any (writes_region (memory_of a)) (uses_of
+    (with_calls items)) ≡ true
     → assigns a items ≡ true
 writes_only_assigned a items is =
-    any_from (writes_region (memory_of a)) (is_assignment a) (write_made a) (program_uses items) (uses_of (with_calls items)) (uses_come_from items) is
+    any_from (writes_region (memory_of a)) (is_assignment a) (write_made a) (program_uses items)
+    (uses_of (with_calls items)) (uses_come_from items) is
 
-pub sends_only_sent : (core : ℕ) (items : List PlainItem) → list_any (is_send_to core) (uses_of (with_calls items)) ≡ true → sends_to core items ≡ true
+pub sends_only_sent : (core : ℕ) (items : List PlainItem) → list_any (is_send_to core) (uses_of (with_calls items))
+    ≡ true → sends_to core items ≡ true
 sends_only_sent core items is =
-    any_from (is_send_to core) (is_send core) (send_made core) (program_uses items) (uses_of (with_calls items)) (uses_come_from items) is
+    any_from (is_send_to core) (is_send core) (send_made core) (program_uses items) (uses_of (with_calls items))
+    (uses_come_from items) is

@@ -16,7 +16,8 @@ use Rattle.single_path.proofs.Data.{data_is_formed, functions_are_few}
 use Rattle.single_path.proofs.Formed.{as_many, functions_are_formed, made_length}
 use Rattle.single_path.proofs.Main.{entry_is_formed, main_there}
 
-pub single_is_formed : (cores own : ℕ) (items : List PlainItem) → cores ≤ 16 → IsValid items cores own → is_formed (with_calls items) ≡ true
+pub single_is_formed : (cores own : ℕ) (items : List PlainItem) → cores ≤ 16 → IsValid items cores own
+    → is_formed (with_calls items) ≡ true
 single_is_formed cores own items few valid =
     and_from _ _ (le-leb (length (with_calls items).functions) 512 (functions_are_few cores own items valid))
     (and_from _ _ (functions_are_formed cores own items few valid)
@@ -30,10 +31,12 @@ pub entry_small : (cores own : ℕ) (items : List PlainItem) → IsValid items c
 entry_small cores own items valid main is =
     let there = main_there cores own items valid in
     let same = ap entry_of (is ∙ there.is) in
-    let many = made_length (parameters_in items) (resolved_items (layout_of items) [] items) (as_many (layout_of items) [] items) in
+    let many = made_length (parameters_in items) (resolved_items (layout_of items) [] items)
+    (as_many (layout_of items) [] items) in
     omega (arith, same, there.within, functions_are_few cores own items valid, many)
 
-pub input_small : (cores own : ℕ) (items : List PlainItem) → IsValid items cores own → ((input_of items).at < 2 ^ 32) × ((input_of items).room < 2 ^ 32)
+pub input_small : (cores own : ℕ) (items : List PlainItem) → IsValid items cores own → ((input_of items).at < 2 ^ 32)
+    × ((input_of items).room < 2 ^ 32)
 input_small cores own items valid =
     let input = input_within 4 items (omega arith) in
     let private = private_fits cores own items valid in

@@ -28,7 +28,8 @@ slots_words : (name : List ℕ) (slots : List Slot) → level_words (among_slots
 slots_words name [] = omega arith
 slots_words name (s ∷ slots) = by (bytes_eq s.name name) (slots_words name slots)
   where
-    by : (here : Bool) → level_words (among_slots name slots) ≤ 0 → level_words (if here then outside s else among_slots name slots) ≤ 0
+    by : (here : Bool) → level_words (among_slots name slots) ≤ 0
+        → level_words (if here then outside s else among_slots name slots) ≤ 0
     by true within = omega arith
     by false within = within
 
@@ -36,16 +37,22 @@ named_words : (names : Names) (text : List ℕ) → level_words (named names tex
 named_words names text = by (among_variables text names.variables) (last_within (λ v. v.name) 0 text names.variables)
   where
     by : (found : Option (Found Variable)) → IfSome found (λ v. (0 ≤ v.at) × (v.at < 0 + length names.variables))
-        → level_words (elim found as (λ _. Stands) [ Some v ↦ level v.at v.is.unsigned | None ↦ among_slots text names.slots ]) ≤ length names.variables
+        → level_words (elim found as (λ _. Stands) [
+          | Some v ↦ level v.at v.is.unsigned
+          | None ↦ among_slots text
+              names.slots
+        ]) ≤ length names.variables
     by None within = omega (arith, slots_words text names.slots)
     by (Some v) within = omega (arith, within.1)
 
 -- ---- expressions and arguments
 
-between_words : (op : BinaryOp) (u : Bool) (a b : PlainSp) → expr_words (resolved_between op u a b) ≤ max (expr_words a) (expr_words b)
+between_words : (op : BinaryOp) (u : Bool) (a b : PlainSp) → expr_words (resolved_between op u a b)
+    ≤ max (expr_words a) (expr_words b)
 between_words op u a b = by (is_exchanged op)
   where
-    by : (exchanged : Bool) → expr_words (if exchanged then between_two (operator_of op u) b a else between_two (operator_of op u) a b)
+    by : (exchanged : Bool) → expr_words (if exchanged then between_two (operator_of op u) b a else between_two
+        (operator_of op u) a b)
         ≤ max (expr_words a) (expr_words b)
     by true = omega arith
     by false = omega arith
@@ -73,18 +80,27 @@ element_words (outside slot) index = omega arith
 element_words scope.nothing index = omega arith
 
 mutual
-  pub resolved_words : (names : Names) (fresh : Option ℕ) (e : PlainExpr) → expr_words (resolved names fresh e) ≤ length names.variables
+  pub resolved_words : (names : Names) (fresh : Option ℕ) (e : PlainExpr) → expr_words (resolved names fresh e)
+      ≤ length names.variables
   resolved_words names fresh (plain.chain at first rest) =
-      steps_words names fresh (expr_unsigned names first) (resolved names fresh first) rest (resolved_words names fresh first)
+      steps_words names fresh (expr_unsigned names first) (resolved names fresh first) rest
+      (resolved_words names fresh first)
   resolved_words names fresh (plain.unary ops of) =
       let inner = resolved_words names fresh of in omega (arith, inner, signs_words ops (resolved names fresh of))
   resolved_words names fresh (plain.number n unsigned) = omega arith
-  resolved_words names fresh (plain.name text) = omega (arith, variable_words fresh (named names text), named_words names text)
+  resolved_words names fresh (plain.name text) =
+      omega (arith, variable_words fresh (named names text), named_words names text)
   resolved_words names fresh (plain.element text index) =
-      let inner = resolved_words names fresh index in omega (arith, inner, element_words (named names text) (resolved names fresh index))
+      let inner = resolved_words names fresh index in omega (
+        arith,
+        inner,
+        element_words (named names text)
+            (resolved names fresh index),
+      )
   resolved_words names fresh (plain.paren of) = resolved_words names fresh of
 
-  steps_words : (names : Names) (fresh : Option ℕ) (u : Bool) (a : PlainSp) (steps : PlainSteps) → expr_words a ≤ length names.variables
+  steps_words : (names : Names) (fresh : Option ℕ) (u : Bool) (a : PlainSp) (steps : PlainSteps) → expr_words a
+      ≤ length names.variables
       → expr_words (resolved_steps names fresh u a steps) ≤ length names.variables
   steps_words names fresh u a plain.no_step within = within
   steps_words names fresh u a (plain.step op operand rest) within =
@@ -102,15 +118,18 @@ resolved_args_words names fresh (e ∷ args) =
 
 -- ---- what is set
 
-pub variable_target_words : (names : Names) (text : List ℕ) → result_words (variable_target (named names text)) ≤ length names.variables
+pub variable_target_words : (names : Names) (text : List ℕ) → result_words (variable_target (named names text))
+    ≤ length names.variables
 variable_target_words names text = by (named names text) (named_words names text)
   where
-    by : (stands : Stands) → level_words stands ≤ length names.variables → result_words (variable_target stands) ≤ length names.variables
+    by : (stands : Stands) → level_words stands ≤ length names.variables → result_words (variable_target stands)
+        ≤ length names.variables
     by (level at unsigned) within = within
     by (outside slot) within = omega arith
     by scope.nothing within = omega arith
 
-pub element_target_words : (stands : Stands) (index : PlainSp) → result_words (element_target stands index) ≤ expr_words index
+pub element_target_words : (stands : Stands) (index : PlainSp) → result_words (element_target stands index)
+    ≤ expr_words index
 element_target_words (level at unsigned) index = omega arith
 element_target_words (outside slot) index = omega arith
 element_target_words scope.nothing index = omega arith

@@ -145,8 +145,8 @@ fn repeated(most: u32, condition: &SpExpr, body: Width, next: &Option<Assignment
     ensures masks { result.masks ≡ specs.capped (specs.loop_masks most body.masks) }
 {
     let tested = expression(condition);
-    let behind_iterations = step(next);
-    let variables = tested.max(body.variables.max(behind_iterations));
+    let after_iterations = step(next);
+    let variables = tested.max(body.variables.max(after_iterations));
     let masks = if most == 0 {
         0
     } else {
@@ -251,8 +251,8 @@ fn arms(branches: &[Branch], last: Width) -> Width
         [] => last,
         [branch, rest @ ..] => {
             let body = width_of(branch.body.as_slice());
-            let behind_arm = arms(rest, last);
-            arm(&branch.condition, body, behind_arm)
+            let after_arm = arms(rest, last);
+            arm(&branch.condition, body, after_arm)
         }
     }
 }

@@ -13,14 +13,16 @@ div_whole : (k slot : ℕ) → 0 < slot → k * slot / slot ≡ k
 div_whole k slot some = ap (λ x. x / slot) (omega arith) ∙ div-mul-add k slot 0 some
 
 -- a slot start is the start of an own slot
-starts_slot : (table : List ℕ) (slot core u : ℕ) → is_slot_start table slot core u ≡ true → (u ≡ u / slot * slot) × (is_owned table core (u / slot) ≡ true)
+starts_slot : (table : List ℕ) (slot core u : ℕ) → is_slot_start table slot core u ≡ true → (u ≡ u / slot * slot)
+    × (is_owned table core (u / slot) ≡ true)
 starts_slot table slot core u h =
     let parts = and_parts (u % slot == 0) (is_owned table core (u / slot)) h in
     let even : u % slot ≡ 0 = eqb-true (u % slot) 0 parts.0 in
     (omega (arith, div-add-mod' u slot), parts.1)
 
 -- an own slot starts at a slot start
-slot_starts : (table : List ℕ) (slot core k : ℕ) → 0 < slot → is_owned table core k ≡ true → is_slot_start table slot core (k * slot) ≡ true
+slot_starts : (table : List ℕ) (slot core k : ℕ) → 0 < slot → is_owned table core k ≡ true
+    → is_slot_start table slot core (k * slot) ≡ true
 slot_starts table slot core k some own =
     and_from (k * slot % slot == 0) (is_owned table core (k * slot / slot))
     (eq-eqb (k * slot % slot) 0 (mul-mod_left k slot))
@@ -29,7 +31,8 @@ slot_starts table slot core k some own =
 -- slots in the order of their starts
 pub slot_order : (a b slot : ℕ) → a * slot < (b + 1) * slot → a ≤ b
 slot_order a b slot h = elim (cases_lt b a) [
-  | inl after ↦ let far : (b + 1) * slot ≤ a * slot = mul-le (b + 1) slot a slot (omega arith) (omega arith) in absurd (omega arith)
+  | inl after ↦ let far : (b + 1) * slot ≤ a * slot =
+      mul-le (b + 1) slot a slot (omega arith) (omega arith) in absurd (omega arith)
   | inr fine ↦ fine
 ]
 
@@ -40,7 +43,8 @@ pub record IsCeiling (t slot first : ℕ) : Type 0 where
   pub near : first * slot < t + slot
 
 -- the next own slot from there on starts at the next slot start
-pub start_of_slot : (table : List ℕ) (slot core t first v : ℕ) → IsCeiling t slot first → IsNext (is_owned table core) first v → IsNext (is_slot_start table slot core) t (v * slot)
+pub start_of_slot : (table : List ℕ) (slot core t first v : ℕ) → IsCeiling t slot first
+    → IsNext (is_owned table core) first v → IsNext (is_slot_start table slot core) t (v * slot)
 start_of_slot table slot core t first v edge h = record {
   passes = slot_starts table slot core v edge.some h.passes;
   from = let far : first * slot ≤ v * slot = mul-le first slot v slot h.from (omega arith) in omega (arith, edge.after);
@@ -53,7 +57,8 @@ start_of_slot table slot core t first v edge h = record {
 }
 
 -- and the other way round
-pub slot_of_start : (table : List ℕ) (slot core t first u : ℕ) → IsCeiling t slot first → IsNext (is_slot_start table slot core) t u → (u ≡ u / slot * slot) × IsNext (is_owned table core) first (u / slot)
+pub slot_of_start : (table : List ℕ) (slot core t first u : ℕ) → IsCeiling t slot first
+    → IsNext (is_slot_start table slot core) t u → (u ≡ u / slot * slot) × IsNext (is_owned table core) first (u / slot)
 slot_of_start table slot core t first u edge h =
     let start = starts_slot table slot core u h.passes in (
       start.0,
@@ -62,7 +67,8 @@ slot_of_start table slot core t first u edge h =
         from = slot_order first (u / slot) slot (omega (arith, edge.near, start.0, h.from));
         least = λ w from own.
             let far : first * slot ≤ w * slot = mul-le first slot w slot from (omega arith) in
-            let least : u ≤ w * slot = h.least (w * slot) (omega (arith, edge.after)) (slot_starts table slot core w edge.some own) in
+            let least : u ≤ w * slot =
+            h.least (w * slot) (omega (arith, edge.after)) (slot_starts table slot core w edge.some own) in
             slot_order (u / slot) w slot (omega (arith, edge.some, start.0));
       },
     )
@@ -81,7 +87,8 @@ start_near t slot first k n edge h =
     omega (arith, edge.near)
 
 -- the gap in cycles is the gap in slots, in cycles
-pub gap_in_cycles : (table : List ℕ) (slot core g : ℕ) → 0 < slot → IsGap (is_owned table core) g → IsGap (is_slot_start table slot core) (g * slot)
+pub gap_in_cycles : (table : List ℕ) (slot core g : ℕ) → 0 < slot → IsGap (is_owned table core) g
+    → IsGap (is_slot_start table slot core) (g * slot)
 gap_in_cycles table slot core g some h =
     let u : ℕ = h.reached.0 in
     let next = start_of_slot table slot core (u * slot + 1) (u + 1) (u + g) (after_slot u slot some) h.reached.1.1 in
@@ -99,7 +106,8 @@ gap_in_cycles table slot core g some h =
           let start = starts_slot table slot core a own in
           let k : ℕ = a / slot in
           let P : ℕ → Type 0 = λ t. IsNext (is_slot_start table slot core) (t + 1) v in
-          let next = slot_of_start table slot core (k * slot + 1) (k + 1) v (after_slot k slot some) (subst P start.0 from) in
+          let next = slot_of_start table slot core (k * slot + 1) (k + 1) v (after_slot k slot some)
+          (subst P start.0 from) in
           let within : v / slot ≤ k + g = h.greatest k (v / slot) start.1 next.1 in
           let far : v / slot * slot ≤ (k + g) * slot = mul-le (v / slot) slot (k + g) slot within (omega arith) in
           omega (arith, next.0, start.0);
@@ -109,13 +117,15 @@ gap_in_cycles table slot core g some h =
     after_slot k slot some = record { some = some; after = omega arith; near = omega arith }
 
 -- so many slots outlast all waits where they do in slots
-pub wait_in_cycles : (table : List ℕ) (slot core g : ℕ) → 0 < slot → OutlastsWaits (is_owned table core) g → OutlastsWaits (is_slot_start table slot core) (g * slot)
+pub wait_in_cycles : (table : List ℕ) (slot core g : ℕ) → 0 < slot → OutlastsWaits (is_owned table core) g
+    → OutlastsWaits (is_slot_start table slot core) (g * slot)
 wait_in_cycles table slot core g some within = record {
   wait = λ t u h.
       let first : ℕ = div_ceil t slot in
       let edge : IsCeiling t slot first = ceiling t slot first some refl in
       let next = slot_of_start table slot core t first u edge h in
       let few : u / slot + 1 ≤ first + g = omega (arith, within.wait first (u / slot) next.1) in
-      let far : (u / slot + 1) * slot ≤ (first + g) * slot = mul-le (u / slot + 1) slot (first + g) slot few (omega arith) in
+      let far : (u / slot + 1) * slot ≤ (first + g) * slot =
+      mul-le (u / slot + 1) slot (first + g) slot few (omega arith) in
       omega (arith, next.0, edge.near);
 }

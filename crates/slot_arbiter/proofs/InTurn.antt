@@ -26,16 +26,19 @@ in_period n slot u some wide =
     ap (λ m. m % (n * slot)) whole ∙ mod-mul-add (k / n) (n * slot) (a * slot + u % slot) (omega arith)
 
 -- so the core's slots start where the plain rule of turns has them
-pub start_in_turn : (n slot core u : ℕ) → core < n → 0 < slot → is_slot_start (range_with_len 0 n) slot core u ≡ true → u % (n * slot) ≡ core * slot
+pub start_in_turn : (n slot core u : ℕ) → core < n → 0 < slot → is_slot_start (range_with_len 0 n) slot core u ≡ true
+    → u % (n * slot) ≡ core * slot
 start_in_turn n slot core u among wide h =
     let parts = and_parts (u % slot == 0) (is_owned (range_with_len 0 n) core (u / slot)) h in
     let even : u % slot ≡ 0 = eqb-true (u % slot) 0 parts.0 in
     let own : u / slot % n ≡ core = sym (owner_in_turn n (u / slot) (omega arith)) ∙ eqb-true _ core parts.1 in
     in_period n slot u (omega arith) wide ∙ omega (arith, even, ap (λ m. m * slot) own)
 
-pub turn_starts : (n slot core u : ℕ) → core < n → 0 < slot → u % (n * slot) ≡ core * slot → is_slot_start (range_with_len 0 n) slot core u ≡ true
+pub turn_starts : (n slot core u : ℕ) → core < n → 0 < slot → u % (n * slot) ≡ core * slot
+    → is_slot_start (range_with_len 0 n) slot core u ≡ true
 turn_starts n slot core u among wide e =
-    let same = same_from_place (u / slot % n) (u % slot) core 0 slot (mod_below u slot wide) wide (sym (in_period n slot u (omega arith) wide) ∙ omega (arith, e)) in
+    let same = same_from_place (u / slot % n) (u % slot) core 0 slot (mod_below u slot wide) wide
+    (sym (in_period n slot u (omega arith) wide) ∙ omega (arith, e)) in
     and_from (u % slot == 0) (is_owned (range_with_len 0 n) core (u / slot))
     (eq-eqb (u % slot) 0 same.1)
     (eq-eqb _ core (owner_in_turn n (u / slot) (omega arith) ∙ same.0))

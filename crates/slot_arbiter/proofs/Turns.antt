@@ -19,18 +19,32 @@ true_unless false h = h refl
 pub reach : (n first j : ℕ) → j < n → (k : ℕ) × ((k < n) × ((first + k) % n ≡ j))
 reach n first j h =
     let away : ℕ = j + (n - first % n) in
-    let whole : first + (j + (n - first % n)) ≡ (first / n + 1) * n + j = omega (arith, div-add-mod' first n) in
-    (away % n, (mod_below away n (omega arith), add-mod-mod first away n ∙ ap (λ x. x % n) whole ∙ mod-mul-add (first / n + 1) n j h))
+    let whole : first + (j + (n - first % n)) ≡ (first / n + 1) * n + j = omega (arith, div-add-mod' first n) in (
+      away % n,
+      (
+        mod_below away n (omega arith),
+        add-mod-mod first away n ∙ ap (λ x. x % n) whole
+            ∙ mod-mul-add (first / n + 1) n j h,
+      ),
+    )
 
 -- from any slot on, a core that has an entry owns a slot within one round
-pub comes : (table : List ℕ) (core first : ℕ) → has_entry table core ≡ true → (k : ℕ) × ((k < length table) × (is_owned table core (first + k) ≡ true))
+pub comes : (table : List ℕ) (core first : ℕ) → has_entry table core ≡ true → (k : ℕ)
+    × ((k < length table) × (is_owned table core (first + k) ≡ true))
 comes table core first h =
     let entry = Any-from_list_any (λ e. e == core) table h in
-    let at = reach (length table) first entry.0 entry.2 in
-    (at.0, (at.1.0, ap (λ i. slice_index table i == core) at.1.1 ∙ ap (λ e. e == core) (sym (get_or_default_zero table entry.0 entry.1 entry.2) ∙ entry.3) ∙ entry.4))
+    let at = reach (length table) first entry.0 entry.2 in (
+      at.0,
+      (
+        at.1.0,
+        ap (λ i. slice_index table i == core) at.1.1
+            ∙ ap (λ e. e == core) (sym (get_or_default_zero table entry.0 entry.1 entry.2) ∙ entry.3) ∙ entry.4,
+      ),
+    )
 
 -- so it is not so that none of the slots of a round is its own
-pub none_passed : (table : List ℕ) (core first : ℕ) → has_entry table core ≡ true → ((k : ℕ) → k < length table → is_owned table core (first + k) ≡ false) → ⊥
+pub none_passed : (table : List ℕ) (core first : ℕ) → has_entry table core ≡ true → ((k : ℕ) → k < length table
+    → is_owned table core (first + k) ≡ false) → ⊥
 none_passed table core first h none =
     let at = comes table core first h in
     let never = none at.0 at.1.0 in
@@ -46,7 +60,8 @@ in_round : (table : List ℕ) (core j d : ℕ) → is_owned table core (j % leng
 in_round table core j d = ap (λ i. slice_index table i == core) (mod-add-mod j (length table) d)
 
 -- the next own slot from j on stands as far from j as that from j's place in the round
-next_in_round : (table : List ℕ) (core j v : ℕ) → IsNext (is_owned table core) j v → IsNext (is_owned table core) (j % length table) (j % length table + (v - j))
+next_in_round : (table : List ℕ) (core j v : ℕ) → IsNext (is_owned table core) j v
+    → IsNext (is_owned table core) (j % length table) (j % length table + (v - j))
 next_in_round table core j v h = record {
   passes = in_round table core j (v - j) ∙ ap (is_owned table core) (omega (arith, h.from)) ∙ h.passes;
   from = omega arith;
@@ -59,7 +74,8 @@ next_in_round table core j v h = record {
 }
 
 -- a round on, the next own slot is a round on
-next_round_on : (table : List ℕ) (core j v : ℕ) → IsNext (is_owned table core) j v → IsNext (is_owned table core) (j + length table) (v + length table)
+next_round_on : (table : List ℕ) (core j v : ℕ) → IsNext (is_owned table core) j v
+    → IsNext (is_owned table core) (j + length table) (v + length table)
 next_round_on table core j v h = record {
   passes = round_on table core v ∙ h.passes;
   from = omega (arith, h.from);
@@ -75,11 +91,13 @@ next_at test t u s v same_from same_to h =
     subst (λ x. IsNext test s x) same_to (subst (λ x. IsNext test x u) same_from h)
 
 -- a distance that outlasts the waits from the places of one round outlasts all
-pub all_waits : (table : List ℕ) (core w : ℕ) → 0 < length table → ((j v : ℕ) → j < length table → IsNext (is_owned table core) j v → v ≤ j + w) → OutlastsWaits (is_owned table core) (1 + w)
+pub all_waits : (table : List ℕ) (core w : ℕ) → 0 < length table → ((j v : ℕ) → j < length table
+    → IsNext (is_owned table core) j v → v ≤ j + w) → OutlastsWaits (is_owned table core) (1 + w)
 all_waits table core w some within = record {
   wait = λ j v h.
       let near : j % length table + (v - j) ≤ j % length table + w =
-      within (j % length table) (j % length table + (v - j)) (mod_below j (length table) some) (next_in_round table core j v h) in
+      within (j % length table) (j % length table + (v - j)) (mod_below j (length table) some)
+      (next_in_round table core j v h) in
       omega arith;
 }
 
@@ -92,7 +110,8 @@ wraps n first slots at here last =
     let whole : first + (slots + 1) ≡ (q + 1) * n + 0 = omega (arith, div-add-mod' (first + slots) n) in
     sym (ap (λ x. x % n) whole ∙ mod-mul-add (q + 1) n 0 (omega arith))
 
-pub moves : (n first slots at : ℕ) → 0 < n → at ≡ (first + slots) % n → (at + 1 ≡ n → ⊥) → at + 1 ≡ (first + (slots + 1)) % n
+pub moves : (n first slots at : ℕ) → 0 < n → at ≡ (first + slots) % n → (at + 1 ≡ n → ⊥) → at + 1
+    ≡ (first + (slots + 1)) % n
 moves n first slots at some here inside =
     let q : ℕ = (first + slots) / n in
     let below : (first + slots) % n < n = mod_below (first + slots) n some in
@@ -100,14 +119,19 @@ moves n first slots at some here inside =
     sym (ap (λ x. x % n) whole ∙ mod-mul-add q n (at + 1) (omega arith))
 
 -- the entry at the place tells whether the slot is the core's
-pub owned_here : (table : List ℕ) (core slot at : ℕ) → at ≡ slot % length table → slice_index table at ≡ core → is_owned table core slot ≡ true
-owned_here table core slot at here own = ap (λ i. slice_index table i == core) (sym here) ∙ eq-eqb (slice_index table at) core own
+pub owned_here : (table : List ℕ) (core slot at : ℕ) → at ≡ slot % length table → slice_index table at ≡ core
+    → is_owned table core slot ≡ true
+owned_here table core slot at here own =
+    ap (λ i. slice_index table i == core) (sym here) ∙ eq-eqb (slice_index table at) core own
 
-pub other_here : (table : List ℕ) (core slot at : ℕ) → at ≡ slot % length table → (slice_index table at ≡ core → ⊥) → is_owned table core slot ≡ false
-other_here table core slot at here other = ap (λ i. slice_index table i == core) (sym here) ∙ ne_eqb (slice_index table at) core other
+pub other_here : (table : List ℕ) (core slot at : ℕ) → at ≡ slot % length table → (slice_index table at ≡ core → ⊥)
+    → is_owned table core slot ≡ false
+other_here table core slot at here other =
+    ap (λ i. slice_index table i == core) (sym here) ∙ ne_eqb (slice_index table at) core other
 
 -- an own slot after none but others' is the next
-pub found : (test : ℕ → Bool) (first slots : ℕ) → test (first + slots) ≡ true → ((k : ℕ) → k < slots → test (first + k) ≡ false) → IsNext test first (first + slots)
+pub found : (test : ℕ → Bool) (first slots : ℕ) → test (first + slots) ≡ true → ((k : ℕ) → k < slots → test (first + k)
+    ≡ false) → IsNext test first (first + slots)
 found test first slots own passed = record {
   passes = own;
   from = omega arith;
@@ -124,7 +148,8 @@ found test first slots own passed = record {
 -- ---- the longest wait is one slot shorter than the gap
 
 -- where a wait is the longest, the slot before it is the core's: else the wait from there were longer
-own_before : (table : List ℕ) (core w before : ℕ) → OutlastsWaits (is_owned table core) (1 + w) → IsNext (is_owned table core) (before + 1) (before + (1 + w)) → is_owned table core before ≡ true
+own_before : (table : List ℕ) (core w before : ℕ) → OutlastsWaits (is_owned table core) (1 + w)
+    → IsNext (is_owned table core) (before + 1) (before + (1 + w)) → is_owned table core before ≡ true
 own_before table core w before within after =
     true_unless (is_owned table core before) (λ other.
     let longer : IsNext (is_owned table core) before (before + (1 + w)) = record {
@@ -141,13 +166,15 @@ own_before table core w before within after =
       | inr same ↦ absurd (true_false (sym own ∙ ap (is_owned table core) (omega arith) ∙ other))
     ]
 
-pub gap_from_waits : (table : List ℕ) (core w : ℕ) → 0 < length table → OutlastsWaits (is_owned table core) (1 + w) → (j : ℕ) × IsNext (is_owned table core) j (j + w) → IsGap (is_owned table core) (1 + w)
+pub gap_from_waits : (table : List ℕ) (core w : ℕ) → 0 < length table → OutlastsWaits (is_owned table core) (1 + w)
+    → (j : ℕ) × IsNext (is_owned table core) j (j + w) → IsGap (is_owned table core) (1 + w)
 gap_from_waits table core w some within at =
     let n : ℕ = length table in
     let before : ℕ = at.0 + n - 1 in
     let here : before + 1 ≡ at.0 + n = omega arith in
     let after : IsNext (is_owned table core) (before + 1) (before + (1 + w)) =
-    next_at (is_owned table core) (at.0 + n) (at.0 + w + n) (before + 1) (before + (1 + w)) (sym here) (omega arith) (next_round_on table core at.0 (at.0 + w) at.1) in
+    next_at (is_owned table core) (at.0 + n) (at.0 + w + n) (before + 1) (before + (1 + w)) (sym here) (omega arith)
+    (next_round_on table core at.0 (at.0 + w) at.1) in
     record {
       reached = (before, (own_before table core w before within after, after));
       greatest = λ u v _ next. let near : v < u + 1 + (1 + w) = within.wait (u + 1) v next in omega arith;
@@ -160,7 +187,9 @@ pub next_same : (test : ℕ → Bool) (t u v : ℕ) → IsNext test t u → IsNe
 next_same test t u v a b = omega (arith, a.least v b.from b.passes, b.least u a.from a.passes)
 
 -- the longer of the longest wait so far and the wait from the next place
-pub more_waits : (test : ℕ → Bool) (first longest w more : ℕ) → more ≡ max longest w → IsNext test first (first + w) → ((j v : ℕ) → j < first → IsNext test j v → v ≤ j + longest) → (j v : ℕ) → j < first + 1 → IsNext test j v → v ≤ j + more
+pub more_waits : (test : ℕ → Bool) (first longest w more : ℕ) → more ≡ max longest w → IsNext test first (first + w)
+    → ((j v : ℕ) → j < first → IsNext test j v → v ≤ j + longest) → (j v : ℕ) → j < first + 1
+    → IsNext test j v → v ≤ j + more
 more_waits test first longest w more e here before j v early h = elim (cases_lt j first) [
   | inl earlier ↦ omega (arith, before j v earlier h)
   | inr later ↦
@@ -169,8 +198,13 @@ more_waits test first longest w more e here before j v early h = elim (cases_lt 
       omega arith
 ]
 
-pub longer_reached : (test : ℕ → Bool) (first longest w more : ℕ) → more ≡ max longest w → IsNext test first (first + w) → (j : ℕ) × IsNext test j (j + longest) → (j : ℕ) × IsNext test j (j + more)
+pub longer_reached : (test : ℕ → Bool) (first longest w more : ℕ) → more ≡ max longest w → IsNext test first (first + w)
+    → (j : ℕ) × IsNext test j (j + longest) → (j : ℕ) × IsNext test j (j + more)
 longer_reached test first longest w more e here before = elim (cases_lt longest w) [
   | inl longer ↦ (first, next_at test first (first + w) first (first + more) refl (omega arith) here)
-  | inr as_long ↦ (before.0, next_at test before.0 (before.0 + longest) before.0 (before.0 + more) refl (omega arith) before.1)
+  | inr as_long ↦ (
+    before.0,
+    next_at test before.0 (before.0 + longest) before.0 (before.0 + more) refl
+        (omega arith) before.1,
+  )
 ]

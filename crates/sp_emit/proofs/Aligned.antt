@@ -11,12 +11,14 @@ base_aligned : (r : Region) → base_of r % 4 ≡ 0
 base_aligned region.Scratch = refl
 base_aligned _ = refl
 
-pub read_aligned : (Named : Use → Type 0) (space : Mem) (address : ℕ) → IsReadPlace Named space address → address % 4 ≡ 0
+pub read_aligned : (Named : Use → Type 0) (space : Mem) (address : ℕ) → IsReadPlace Named space address
+    → address % 4 ≡ 0
 read_aligned Named space address (inl v) = omega (arith, v.2.address_is, base_aligned v.0.region)
 read_aligned Named space address (inr (inl v)) = omega (arith, v.2.address_is, base_aligned v.0.region)
 read_aligned Named space address (inr (inr v)) = omega (arith, v.2.address_is)
 
-pub stored_aligned : (Named : Use → Type 0) (space : Mem) (address : ℕ) → IsStoredPlace Named space address → address % 4 ≡ 0
+pub stored_aligned : (Named : Use → Type 0) (space : Mem) (address : ℕ) → IsStoredPlace Named space address
+    → address % 4 ≡ 0
 stored_aligned Named space address (inl v) = omega (arith, v.2.address_is, base_aligned v.0.region)
 stored_aligned Named space address (inr (inl v)) = omega (arith, v.2.address_is, base_aligned v.0.region)
 stored_aligned Named space address (inr (inr (inl v))) = omega (arith, v.address_is)

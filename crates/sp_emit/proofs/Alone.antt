@@ -20,9 +20,14 @@ is_alone b = is_none b.second
 alone_firm : (b : Slots) → is_firm 8 b ≡ true → is_alone b ≡ true
 alone_firm b firm = (and_parts (sets_none b.first.op) (is_alone b) (place_firm 8 b firm)).1
 
-pub function_alone : (homes : Homes) (f : PlainFunction) → parts_all (λ b. is_none b.second) (function_code homes f) ≡ true
+pub function_alone : (homes : Homes) (f : PlainFunction) → parts_all (λ b. is_none b.second) (function_code homes f)
+    ≡ true
 function_alone homes f =
     let body = body_code homes f in
-    and_from (list_all is_alone (function_begin homes f)) (parts_all is_alone (joined body (function_rest homes.first f))) (begin_all is_alone homes f refl (λ r. refl) (λ slot rs. refl) refl (λ slot p is. refl) (λ p is. refl) refl)
-    (each_joined is_alone body (function_rest homes.first f) (each_so (is_firm 8) is_alone alone_firm body (body_firm homes f))
-    (and_from (list_all is_alone (function_end homes.first f)) true (end_all is_alone homes.first f refl refl refl refl) refl))
+    and_from (list_all is_alone (function_begin homes f))
+    (parts_all is_alone (joined body (function_rest homes.first f))) (begin_all is_alone homes f refl (λ r. refl)
+    (λ slot rs. refl) refl (λ slot p is. refl) (λ p is. refl) refl)
+    (each_joined is_alone body (function_rest homes.first f) (each_so (is_firm 8) is_alone alone_firm body
+    (body_firm homes f))
+    (and_from (list_all is_alone (function_end homes.first f)) true (end_all is_alone homes.first f refl refl refl refl)
+    refl))

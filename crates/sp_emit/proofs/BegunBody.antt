@@ -13,16 +13,19 @@ use Rattle.sp_emit.specs.Places.{flag_of, stmts_least}
 use Rattle.sp_emit.proofs.Uncalled.{neither}
 use Rattle.sp_emit.specs.declared.stands.Flags.{Flags}
 
-pub begun_is : (P : PlainStmts → Type 0) (flags : Flags) (f : PlainFunction) → P f.body → P (behind_first f.body) → P (begun_body flags f)
+pub begun_is : (P : PlainStmts → Type 0) (flags : Flags) (f : PlainFunction) → P f.body → P (behind_first f.body)
+    → P (begun_body flags f)
 begun_is P flags f all rest = by (is_some (flag_of flags f.mask))
   where
     by : (b : Bool) → P (if b then behind_first f.body else f.body)
     by true = rest
     by false = all
 
-formed : (fs : List PlainFunction) (number slots : ℕ) (ts : PlainStmts) → stmts_formed fs number slots ts ≡ true → stmts_formed fs number slots (behind_first ts) ≡ true
+formed : (fs : List PlainFunction) (number slots : ℕ) (ts : PlainStmts) → stmts_formed fs number slots ts ≡ true
+    → stmts_formed fs number slots (behind_first ts) ≡ true
 formed fs number slots no_stmt h = h
-formed fs number slots (stmt t rest) h = (and_parts (stmt_formed fs number slots t) (stmts_formed fs number slots rest) h).1
+formed fs number slots (stmt t rest) h =
+    (and_parts (stmt_formed fs number slots t) (stmts_formed fs number slots rest) h).1
 
 levels : (ts : PlainStmts) → stmts_levels (behind_first ts) ≤ stmts_levels ts
 levels no_stmt = omega arith
@@ -56,29 +59,38 @@ chain : (g : ℕ → ℕ) (ts : PlainStmts) → stmts_chain g (behind_first ts) 
 chain g no_stmt = omega arith
 chain g (stmt t rest) = omega arith
 
-pub begun_formed : (flags : Flags) (fs : List PlainFunction) (number slots : ℕ) (f : PlainFunction) → stmts_formed fs number slots f.body ≡ true → stmts_formed fs number slots (begun_body flags f) ≡ true
-begun_formed flags fs number slots f h = begun_is (λ ts. stmts_formed fs number slots ts ≡ true) flags f h (formed fs number slots f.body h)
+pub begun_formed : (flags : Flags) (fs : List PlainFunction) (number slots : ℕ) (f : PlainFunction)
+    → stmts_formed fs number slots f.body ≡ true → stmts_formed fs number slots (begun_body flags f) ≡ true
+begun_formed flags fs number slots f h =
+    begun_is (λ ts. stmts_formed fs number slots ts ≡ true) flags f h (formed fs number slots f.body h)
 
 pub begun_levels : (flags : Flags) (f : PlainFunction) → stmts_levels (begun_body flags f) ≤ stmts_levels f.body
 begun_levels flags f = begun_is (λ ts. stmts_levels ts ≤ stmts_levels f.body) flags f (omega arith) (levels f.body)
 
-pub begun_least : (flags : Flags) (tops : List ℕ) (f : PlainFunction) → stmts_least tops (begun_body flags f) ≤ stmts_least tops f.body
-begun_least flags tops f = begun_is (λ ts. stmts_least tops ts ≤ stmts_least tops f.body) flags f (omega arith) (least tops f.body)
+pub begun_least : (flags : Flags) (tops : List ℕ) (f : PlainFunction) → stmts_least tops (begun_body flags f)
+    ≤ stmts_least tops f.body
+begun_least flags tops f =
+    begun_is (λ ts. stmts_least tops ts ≤ stmts_least tops f.body) flags f (omega arith) (least tops f.body)
 
-pub begun_spared : (flags : Flags) (tops : List ℕ) (f : PlainFunction) → stmts_spared tops (begun_body flags f) ≤ stmts_spared tops f.body
-begun_spared flags tops f = begun_is (λ ts. stmts_spared tops ts ≤ stmts_spared tops f.body) flags f (omega arith) (spared tops f.body)
+pub begun_spared : (flags : Flags) (tops : List ℕ) (f : PlainFunction) → stmts_spared tops (begun_body flags f)
+    ≤ stmts_spared tops f.body
+begun_spared flags tops f =
+    begun_is (λ ts. stmts_spared tops ts ≤ stmts_spared tops f.body) flags f (omega arith) (spared tops f.body)
 
 pub begun_costs : (flags : Flags) (f : PlainFunction) → stmts_cost (begun_body flags f) ≤ stmts_cost f.body
 begun_costs flags f = begun_is (λ ts. stmts_cost ts ≤ stmts_cost f.body) flags f (omega arith) (costs f.body)
 
-pub begun_uncalled : (flags : Flags) (f : PlainFunction) → stmts_call f.body ≡ false → stmts_call (begun_body flags f) ≡ false
+pub begun_uncalled : (flags : Flags) (f : PlainFunction) → stmts_call f.body ≡ false → stmts_call (begun_body flags f)
+    ≡ false
 begun_uncalled flags f h = begun_is (λ ts. stmts_call ts ≡ false) flags f h (uncalled f.body h)
 
-pub begun_constants : (flags : Flags) (f : PlainFunction) → HasStmtsConstants f.body → HasStmtsConstants (begun_body flags f)
+pub begun_constants : (flags : Flags) (f : PlainFunction) → HasStmtsConstants f.body
+    → HasStmtsConstants (begun_body flags f)
 begun_constants flags f h = begun_is HasStmtsConstants flags f h (constants f.body h)
 
 pub begun_counts : (flags : Flags) (f : PlainFunction) → HasStmtsCounts f.body → HasStmtsCounts (begun_body flags f)
 begun_counts flags f h = begun_is HasStmtsCounts flags f h (counts f.body h)
 
-pub begun_chain : (flags : Flags) (g : ℕ → ℕ) (f : PlainFunction) → stmts_chain g (begun_body flags f) ≤ stmts_chain g f.body
+pub begun_chain : (flags : Flags) (g : ℕ → ℕ) (f : PlainFunction) → stmts_chain g (begun_body flags f)
+    ≤ stmts_chain g f.body
 begun_chain flags g f = begun_is (λ ts. stmts_chain g ts ≤ stmts_chain g f.body) flags f (omega arith) (chain g f.body)

@@ -73,7 +73,17 @@ abbrev mutual
 -- ---- what is kept
 
 pub keeps_all : (rd homes : ℕ) (m : Run) → IsWhole m → Keeps rd homes m m
-keeps_all rd homes m whole = record { whole = whole; low = λ r lt. refl; high = λ r at lt. refl; flags = λ p from lt. refl; flag = refl; stack = refl; st = refl; memory = refl }
+keeps_all rd homes m whole = record {
+  whole = whole;
+  low = λ r lt. refl;
+  high = λ r at lt. refl;
+  flags = λ p from lt.
+      refl;
+  flag = refl;
+  stack = refl;
+  st = refl;
+  memory = refl;
+}
 
 pub keeps_both : {rd homes : ℕ} {m n t : Run} → Keeps rd homes m n → Keeps rd homes n t → Keeps rd homes m t
 keeps_both a b = record {
@@ -106,21 +116,34 @@ pub record IsApart (rd homes r : ℕ) : Type 0 where
   pub other : r ≡ OVERRUN → ⊥
   pub beside : (OVERRUN < r) ⊎ (r < homes)
 
-free_parts : (rd homes r : ℕ) → nat_le rd r && (nat_lt OVERRUN r || (nat_lt r homes && not (r == OVERRUN))) ≡ true → IsApart rd homes r
+free_parts : (rd homes r : ℕ) → nat_le rd r && (nat_lt OVERRUN r || (nat_lt r homes && not (r == OVERRUN))) ≡ true
+    → IsApart rd homes r
 free_parts rd homes r free =
     let a = and_parts (nat_le rd r) (nat_lt OVERRUN r || (nat_lt r homes && not (r == OVERRUN))) free in
     by a.0 (or_cases (nat_lt OVERRUN r) (nat_lt r homes && not (r == OVERRUN)) a.1)
   where
-    by : nat_le rd r ≡ true → (nat_lt OVERRUN r ≡ true) ⊎ ((nat_lt r homes && not (r == OVERRUN)) ≡ true) → IsApart rd homes r
-    by le (inl past) = record { above = leb-true rd r le; other = λ same. absurd (omega (arith, same, ltb-true OVERRUN r past)); beside = inl (ltb-true OVERRUN r past) }
+    by : nat_le rd r ≡ true → (nat_lt OVERRUN r ≡ true) ⊎ ((nat_lt r homes && not (r == OVERRUN)) ≡ true)
+        → IsApart rd homes r
+    by le (inl past) = record {
+      above = leb-true rd r le;
+      other = λ same. absurd
+          (omega (arith, same, ltb-true OVERRUN r past));
+      beside = inl (ltb-true OVERRUN r past);
+    }
     by le (inr before) =
         let b = and_parts (nat_lt r homes) (not (r == OVERRUN)) before in
-        record { above = leb-true rd r le; other = eqb-false r OVERRUN (not-true (r == OVERRUN) b.1); beside = inr (ltb-true r homes b.0) }
+        record {
+          above = leb-true rd r le;
+          other = eqb-false r OVERRUN (not-true (r == OVERRUN) b.1);
+          beside = inr (ltb-true r homes b.0);
+        }
 
 pub free_cases : (rd homes r : ℕ) → is_free rd homes r ≡ true → (r ≡ 0) ⊎ IsApart rd homes r
-free_cases rd homes r free = by (or_cases (r == 0) (nat_le rd r && (nat_lt OVERRUN r || (nat_lt r homes && not (r == OVERRUN)))) free)
+free_cases rd homes r free =
+    by (or_cases (r == 0) (nat_le rd r && (nat_lt OVERRUN r || (nat_lt r homes && not (r == OVERRUN)))) free)
   where
-    by : ((r == 0) ≡ true) ⊎ ((nat_le rd r && (nat_lt OVERRUN r || (nat_lt r homes && not (r == OVERRUN)))) ≡ true) → (r ≡ 0) ⊎ IsApart rd homes r
+    by : ((r == 0) ≡ true) ⊎ ((nat_le rd r && (nat_lt OVERRUN r || (nat_lt r homes && not (r == OVERRUN)))) ≡ true)
+        → (r ≡ 0) ⊎ IsApart rd homes r
     by (inl zero_is) = inl (eqb-true r 0 zero_is)
     by (inr from) = inr (free_parts rd homes r from)
 
@@ -152,7 +175,8 @@ free_high rd homes r x free at some lt same = by (free_cases rd homes r free)
 -- ---- writes
 
 -- a register that is free
-pub keeps_register : (rd homes r v : ℕ) (m : Run) → rd < 32 → IsWhole m → is_free rd homes r ≡ true → Keeps rd homes m (with_written (write.Register r v) m)
+pub keeps_register : (rd homes r v : ℕ) (m : Run) → rd < 32 → IsWhole m → is_free rd homes r ≡ true
+    → Keeps rd homes m (with_written (write.Register r v) m)
 keeps_register rd homes r v m few whole free = record {
   whole = whole_written (write.Register r v) m whole;
   low = low;
@@ -166,16 +190,20 @@ keeps_register rd homes r v m few whole free = record {
   where
     low : (x : ℕ) → x < rd → held x (with_written (write.Register r v) m) ≡ held x m
     low zero lt = stays_zero (write.Register r v) m whole
-    low (suc x) lt = kept r v (suc x) m whole (omega (arith, lt, few)) (free_apart rd homes r (suc x) free lt (omega arith))
+    low (suc x) lt =
+        kept r v (suc x) m whole (omega (arith, lt, few)) (free_apart rd homes r (suc x) free lt (omega arith))
 
     high : KeepsFrom homes m (with_written (write.Register r v) m)
     high zero at lt = stays_zero (write.Register r v) m whole
-    high (suc x) at lt = kept r v (suc x) m whole (omega (arith, lt)) (free_high rd homes r (suc x) free at (omega arith) lt)
+    high (suc x) at lt =
+        kept r v (suc x) m whole (omega (arith, lt)) (free_high rd homes r (suc x) free at (omega arith) lt)
 
 -- ---- bundles
 
 -- a register or a predicate is left that calm instructions do not set
-calm_leaves : (rd homes : ℕ) (x : Operand) → ((r : ℕ) → is_free rd homes r ≡ true → no_register x r ≡ true) → ((p : ℕ) → is_passing p ≡ true → no_predicate x p ≡ true) → (op : Op) → is_calm_op rd homes op ≡ true → leaves_op x op ≡ true
+calm_leaves : (rd homes : ℕ) (x : Operand) → ((r : ℕ) → is_free rd homes r ≡ true → no_register x r ≡ true)
+    → ((p : ℕ) → is_passing p ≡ true → no_predicate x p ≡ true) → (op : Op) → is_calm_op rd homes op ≡ true
+    → leaves_op x op ≡ true
 calm_leaves rd homes x free passing (AluImm func r ra imm) calm = free r calm
 calm_leaves rd homes x free passing (AluReg func r ra rb) calm = free r calm
 calm_leaves rd homes x free passing (AluLong func r ra constant) calm = free r calm
@@ -194,19 +222,23 @@ record SameMemories (m t : Run) : Type 0 where
   st : t.st ≡ m.st
   memory : t.memory ≡ m.memory
 
-calm_effect : (from : Sources) (rd homes : ℕ) (on : Bool) (op : Op) (regs : Registers) (m : Run) → is_calm_op rd homes op ≡ true → SameMemories m (effected from (if on then asked regs op else effect.Nothing) m)
+calm_effect : (from : Sources) (rd homes : ℕ) (on : Bool) (op : Op) (regs : Registers) (m : Run)
+    → is_calm_op rd homes op ≡ true → SameMemories m (effected from (if on then asked regs op else effect.Nothing) m)
 calm_effect from rd homes false op regs m calm = record { stack = refl; st = refl; memory = refl }
 calm_effect from rd homes true (Store space width ra rs imm) regs m calm = absurd (true≢false (sym calm))
 calm_effect from rd homes true (Stack func count) regs m calm = absurd (true≢false (sym calm))
 calm_effect from rd homes true _ regs m calm = record { stack = refl; st = refl; memory = refl }
 
-calm_bundle : (from : Sources) (rd homes : ℕ) (b : Slots) (m : Run) → rd < 32 → IsWhole m → is_calm rd homes b ≡ true → Keeps rd homes m (once from b m)
+calm_bundle : (from : Sources) (rd homes : ℕ) (b : Slots) (m : Run) → rd < 32 → IsWhole m → is_calm rd homes b ≡ true
+    → Keeps rd homes m (once from b m)
 calm_bundle from rd homes b m few whole calm = record {
   whole = after;
   low = low;
   high = high;
-  flags = λ p at lt. left (predicate p) lt (λ r free. refl) (λ q passing. ap not (ne_eqb q p (λ same. absurd (omega (arith, same, at, ltb-true q FLAGS passing)))));
-  flag = left (register OVERRUN) (omega arith) (λ r free. ap not (ne_eqb r OVERRUN (free_flag rd homes r free))) (λ p passing. refl);
+  flags = λ p at lt. left (predicate p) lt (λ r free. refl)
+      (λ q passing. ap not (ne_eqb q p (λ same. absurd (omega (arith, same, at, ltb-true q FLAGS passing)))));
+  flag = left (register OVERRUN) (omega arith) (λ r free. ap not (ne_eqb r OVERRUN (free_flag rd homes r free)))
+      (λ p passing. refl);
   stack = still.stack;
   st = still.st;
   memory = still.memory;
@@ -219,22 +251,29 @@ calm_bundle from rd homes b m few whole calm = record {
     after = once_whole from b m whole
 
     still : SameMemories m (effected from (effect_of b m.regs) (behind b m))
-    still = let e = calm_effect from rd homes (holds m.regs b.first.guard) b.first.op m.regs (behind b m) both.0 in record { stack = e.stack; st = e.st; memory = e.memory }
+    still = let e = calm_effect from rd homes (holds m.regs b.first.guard) b.first.op m.regs (behind b m) both.0 in
+        record { stack = e.stack; st = e.st; memory = e.memory }
 
-    left : (x : Operand) → IsThere x → ((r : ℕ) → is_free rd homes r ≡ true → no_register x r ≡ true) → ((p : ℕ) → is_passing p ≡ true → no_predicate x p ≡ true) → Same x m (once from b m)
-    left x there free passing = left_once from x b m there whole (and_from (leaves_op x b.first.op) (is_none b.second) (calm_leaves rd homes x free passing b.first.op both.0) both.1)
+    left : (x : Operand) → IsThere x → ((r : ℕ) → is_free rd homes r ≡ true → no_register x r ≡ true)
+        → ((p : ℕ) → is_passing p ≡ true → no_predicate x p ≡ true) → Same x m (once from b m)
+    left x there free passing = left_once from x b m there whole (and_from (leaves_op x b.first.op) (is_none b.second)
+        (calm_leaves rd homes x free passing b.first.op both.0) both.1)
 
     low : (x : ℕ) → x < rd → held x (once from b m) ≡ held x m
     low zero lt = after.fits.zero ∙ sym whole.fits.zero
-    low (suc x) lt = left (register (suc x)) (omega (arith, lt, few)) (λ r free. ap not (ne_eqb r (suc x) (free_apart rd homes r (suc x) free lt (omega arith)))) (λ p passing. refl)
+    low (suc x) lt = left (register (suc x)) (omega (arith, lt, few))
+        (λ r free. ap not (ne_eqb r (suc x) (free_apart rd homes r (suc x) free lt (omega arith)))) (λ p passing. refl)
 
     high : KeepsFrom homes m (once from b m)
     high zero at lt = after.fits.zero ∙ sym whole.fits.zero
-    high (suc x) at lt = left (register (suc x)) (omega (arith, lt)) (λ r free. ap not (ne_eqb r (suc x) (free_high rd homes r (suc x) free at (omega arith) lt))) (λ p passing. refl)
+    high (suc x) at lt = left (register (suc x)) (omega (arith, lt))
+        (λ r free. ap not (ne_eqb r (suc x) (free_high rd homes r (suc x) free at (omega arith) lt)))
+        (λ p passing. refl)
 
 -- ---- trails
 
-pub calm_run : (from : Sources) (rd homes : ℕ) (steps : List Step) (m : Run) → rd < 32 → IsWhole m → is_calm_trail rd homes steps ≡ true → Keeps rd homes m (run from steps m)
+pub calm_run : (from : Sources) (rd homes : ℕ) (steps : List Step) (m : Run) → rd < 32 → IsWhole m
+    → is_calm_trail rd homes steps ≡ true → Keeps rd homes m (run from steps m)
 calm_run from rd homes [] m few whole calm = keeps_all rd homes m whole
 calm_run from rd homes (does b ∷ steps) m few whole calm =
     let both = and_parts (is_calm rd homes b) (is_calm_trail rd homes steps) calm in
@@ -242,34 +281,41 @@ calm_run from rd homes (does b ∷ steps) m few whole calm =
     keeps_both one (calm_run from rd homes steps (once from b m) few one.whole both.1)
 calm_run from rd homes (begins ∷ steps) m few whole calm = absurd (true≢false (sym calm))
 
-calm_append : (rd homes : ℕ) (xs ys : List Step) → is_calm_trail rd homes xs ≡ true → is_calm_trail rd homes ys ≡ true → is_calm_trail rd homes (xs ++ ys) ≡ true
+calm_append : (rd homes : ℕ) (xs ys : List Step) → is_calm_trail rd homes xs ≡ true → is_calm_trail rd homes ys ≡ true
+    → is_calm_trail rd homes (xs ++ ys) ≡ true
 calm_append rd homes [] ys a b = b
 calm_append rd homes (does x ∷ xs) ys a b =
     let both = and_parts (is_calm rd homes x) (is_calm_trail rd homes xs) a in
     and_from (is_calm rd homes x) (is_calm_trail rd homes (xs ++ ys)) both.0 (calm_append rd homes xs ys both.1 b)
 calm_append rd homes (begins ∷ xs) ys a b = absurd (true≢false (sym a))
 
-calm_copies : (rd homes n : ℕ) (xs : List Step) → is_calm_trail rd homes xs ≡ true → is_calm_trail rd homes (copies n xs) ≡ true
+calm_copies : (rd homes n : ℕ) (xs : List Step) → is_calm_trail rd homes xs ≡ true
+    → is_calm_trail rd homes (copies n xs) ≡ true
 calm_copies rd homes zero xs a = refl
 calm_copies rd homes (suc n) xs a = calm_append rd homes xs (copies n xs) a (calm_copies rd homes n xs a)
 
-calm_done : (rd homes : ℕ) (bs : List Slots) → list_all (is_calm rd homes) bs ≡ true → is_calm_trail rd homes (all_done bs) ≡ true
+calm_done : (rd homes : ℕ) (bs : List Slots) → list_all (is_calm rd homes) bs ≡ true
+    → is_calm_trail rd homes (all_done bs) ≡ true
 calm_done rd homes [] a = refl
 calm_done rd homes (b ∷ bs) a =
     let both = and_parts (is_calm rd homes b) (list_all (is_calm rd homes) bs) a in
     and_from (is_calm rd homes b) (is_calm_trail rd homes (all_done bs)) both.0 (calm_done rd homes bs both.1)
 
 mutual
-  part_trail_calm : (f : ℕ → List Step) (rd homes : ℕ) (p : PlainPart) → part_calm rd homes p ≡ true → is_calm_trail rd homes (part_trail f p) ≡ true
+  part_trail_calm : (f : ℕ → List Step) (rd homes : ℕ) (p : PlainPart) → part_calm rd homes p ≡ true
+      → is_calm_trail rd homes (part_trail f p) ≡ true
   part_trail_calm f rd homes (straight bs) a = calm_done rd homes bs a
   part_trail_calm f rd homes (repeats count body tail) a =
       let both = and_parts (parts_calm rd homes body) (list_all (is_calm rd homes) tail) a in
-      calm_copies rd homes count (parts_trail f body ++ all_done tail) (calm_append rd homes (parts_trail f body) (all_done tail) (parts_trail_calm f rd homes body both.0) (calm_done rd homes tail both.1))
+      calm_copies rd homes count (parts_trail f body ++ all_done tail) (calm_append rd homes (parts_trail f body)
+      (all_done tail) (parts_trail_calm f rd homes body both.0) (calm_done rd homes tail both.1))
   part_trail_calm f rd homes (calls_to k tail) a = absurd (true≢false (sym a))
   part_trail_calm f rd homes (leaves tail) a = absurd (true≢false (sym a))
 
-  pub parts_trail_calm : (f : ℕ → List Step) (rd homes : ℕ) (ps : PlainParts) → parts_calm rd homes ps ≡ true → is_calm_trail rd homes (parts_trail f ps) ≡ true
+  pub parts_trail_calm : (f : ℕ → List Step) (rd homes : ℕ) (ps : PlainParts) → parts_calm rd homes ps ≡ true
+      → is_calm_trail rd homes (parts_trail f ps) ≡ true
   parts_trail_calm f rd homes no_part a = refl
   parts_trail_calm f rd homes (part p rest) a =
       let both = and_parts (part_calm rd homes p) (parts_calm rd homes rest) a in
-      calm_append rd homes (part_trail f p) (parts_trail f rest) (part_trail_calm f rd homes p both.0) (parts_trail_calm f rd homes rest both.1)
+      calm_append rd homes (part_trail f p) (parts_trail f rest) (part_trail_calm f rd homes p both.0)
+      (parts_trail_calm f rd homes rest both.1)

@@ -28,27 +28,41 @@ cell_in region.Shared word = cell.Shared word
 
 scratch_at : (word at : ℕ) → at ≡ 4 * word → word < 2048 → cell_at Local at ≡ Some (cell.Scratch word)
 scratch_at word at is few =
-    rw (le-leb 0 at (omega arith), lt-ltb at (0 + 4 * 2048) (omega (arith, is, few))) (ap (λ n. Some (cell.Scratch n)) (let e : (at - 0) / 4 ≡ word = omega (arith, is) in e))
+    rw (le-leb 0 at (omega arith), lt-ltb at (0 + 4 * 2048) (omega (arith, is, few))) (ap (λ n. Some (cell.Scratch n))
+    (let e : (at - 0) / 4 ≡ word = omega (arith, is) in e))
 
 comm_at : (word at : ℕ) → at ≡ 0x10000 + 4 * word → word < 512 → cell_at Local at ≡ Some (cell.Comm word)
 comm_at word at is few =
-    rw (le-leb 0 at (omega arith), le-ltb at (0 + 4 * 2048) (omega (arith, is)), le-leb 0x10000 at (omega (arith, is)), lt-ltb at (0x10000 + 4 * 512) (omega (arith, is, few)))
+    rw (
+      le-leb 0 at (omega arith),
+      le-ltb at (0 + 4 * 2048) (omega (arith, is)),
+      le-leb 0x10000 at (omega (arith, is)),
+      lt-ltb at (0x10000 + 4 * 512) (omega (arith, is, few)),
+    )
     (ap (λ n. Some (cell.Comm n)) (let e : (at - 0x10000) / 4 ≡ word = omega (arith, is) in e))
 
 shared_at : (word at : ℕ) → at ≡ 0x1000000 + 4 * word → word < 4096 → cell_at Main at ≡ Some (cell.Shared word)
 shared_at word at is few =
-    rw (le-leb 0 at (omega arith), le-ltb at (0 + 4 * 65536) (omega (arith, is)), le-leb 0x1000000 at (omega (arith, is)), lt-ltb at (0x1000000 + 4 * 4096) (omega (arith, is, few)))
+    rw (
+      le-leb 0 at (omega arith),
+      le-ltb at (0 + 4 * 65536) (omega (arith, is)),
+      le-leb 0x1000000 at
+          (omega (arith, is)),
+      lt-ltb at (0x1000000 + 4 * 4096) (omega (arith, is, few)),
+    )
     (ap (λ n. Some (cell.Shared n)) (let e : (at - 0x1000000) / 4 ≡ word = omega (arith, is) in e))
 
 -- ---- the same, where code looks for it
 
-pub cell_found : (r : Region) (word : ℕ) → word < room_in r all_rooms → cell_of (cell_space r) (address_of r word) ≡ Some (cell_in r word)
+pub cell_found : (r : Region) (word : ℕ) → word < room_in r all_rooms → cell_of (cell_space r) (address_of r word)
+    ≡ Some (cell_in r word)
 cell_found region.Scratch word few = scratch_at word ((0 + 4 * word) / 4 * 4) (omega arith) few
 cell_found region.Comm word few = comm_at word ((0x10000 + 4 * word) / 4 * 4) (omega arith) few
 cell_found region.Private word few = private_at word ((0 + 4 * word) / 4 * 4) (omega arith) (omega (arith, few))
 cell_found region.Shared word few = shared_at word ((0x1000000 + 4 * word) / 4 * 4) (omega arith) few
 
-pub element_found : (r : Region) (word : ℕ) → word < room_in r all_rooms → cell_of (array_space r) (address_of r word) ≡ Some (cell_in r word)
+pub element_found : (r : Region) (word : ℕ) → word < room_in r all_rooms → cell_of (array_space r) (address_of r word)
+    ≡ Some (cell_in r word)
 element_found region.Scratch word few = cell_found region.Scratch word few
 element_found other word few = cell_found other word few
 
@@ -61,30 +75,38 @@ first_small region.Scratch word few = omega (arith, few)
 first_small _ word few = omega (arith, few)
 
 -- so many words after the first
-pub element_address : (r : Region) (first index : ℕ) → first + index < room_in r all_rooms → address_by ((4 * index + address_of r first) % 2 ^ 32) 0 4 ≡ address_of r (first + index)
+pub element_address : (r : Region) (first index : ℕ) → first + index < room_in r all_rooms
+    → address_by ((4 * index + address_of r first) % 2 ^ 32) 0 4 ≡ address_of r (first + index)
 element_address region.Scratch first index few = omega (arith, few)
 element_address _ first index few = omega (arith, few)
 
 -- ---- what is in it
 
-shown_word : (r : Region) (word : ℕ) (w : world.World) (m : Memory) → HasWords w m → first_of r ≤ word → cell_word (cell_in r word) m ≡ world.word_at r word w
+shown_word : (r : Region) (word : ℕ) (w : world.World) (m : Memory) → HasWords w m → first_of r ≤ word
+    → cell_word (cell_in r word) m ≡ world.word_at r word w
 shown_word region.Scratch word w m shows from = shows.scratch word
 shown_word region.Comm word w m shows from = shows.comm word
 shown_word region.Private word w m shows from = shows.private word (omega (arith, from))
 shown_word region.Shared word w m shows from = shows.shared word
 
-given_cell : (r : Region) (address : ℕ) (m : Run) → word_given by_words (cell_space r) address m ≡ word_at (cell_of (cell_space r) address) m.memory
+given_cell : (r : Region) (address : ℕ) (m : Run) → word_given by_words (cell_space r) address m
+    ≡ word_at (cell_of (cell_space r) address) m.memory
 given_cell region.Scratch address m = refl
 given_cell _ address m = refl
 
-given_element : (r : Region) (address : ℕ) (m : Run) → word_given by_words (array_space r) address m ≡ word_at (cell_of (array_space r) address) m.memory
+given_element : (r : Region) (address : ℕ) (m : Run) → word_given by_words (array_space r) address m
+    ≡ word_at (cell_of (array_space r) address) m.memory
 given_element region.Scratch address m = refl
 given_element _ address m = refl
 
-pub cell_given : (r : Region) (word : ℕ) (w : world.World) (m : Run) → HasWords w m.memory → first_of r ≤ word → word < room_in r all_rooms
+pub cell_given : (r : Region) (word : ℕ) (w : world.World) (m : Run) → HasWords w m.memory → first_of r ≤ word
+    → word < room_in r all_rooms
     → word_given by_words (cell_space r) (address_of r word) m ≡ world.word_at r word w
-cell_given r word w m shows from few = given_cell r (address_of r word) m ∙ ap (λ c. word_at c m.memory) (cell_found r word few) ∙ shown_word r word w m.memory shows from
+cell_given r word w m shows from few = given_cell r (address_of r word) m
+    ∙ ap (λ c. word_at c m.memory) (cell_found r word few) ∙ shown_word r word w m.memory shows from
 
-pub element_given : (r : Region) (word : ℕ) (w : world.World) (m : Run) → HasWords w m.memory → first_of r ≤ word → word < room_in r all_rooms
+pub element_given : (r : Region) (word : ℕ) (w : world.World) (m : Run) → HasWords w m.memory → first_of r ≤ word
+    → word < room_in r all_rooms
     → word_given by_words (array_space r) (address_of r word) m ≡ world.word_at r word w
-element_given r word w m shows from few = given_element r (address_of r word) m ∙ ap (λ c. word_at c m.memory) (element_found r word few) ∙ shown_word r word w m.memory shows from
+element_given r word w m shows from few = given_element r (address_of r word) m
+    ∙ ap (λ c. word_at c m.memory) (element_found r word few) ∙ shown_word r word w m.memory shows from

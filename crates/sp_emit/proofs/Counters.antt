@@ -21,7 +21,8 @@ use Rattle.sp_emit.proofs.Passing.{Passes, passes_done, enough_still}
 use Rattle.sp_emit.proofs.WordPlaces.{fetch_is, fetched_some, fetched_few, fetch_leaves, keep_is, keep_leaves, behind_word, word_still, stack_before}
 
 -- the counter's word after a body that leaves it
-still : (homes counter n : ℕ) (m t : Run) → Passes (homes + counter) (stack_word homes counter) m t → word_of homes counter m ≡ n → word_of homes counter t ≡ n
+still : (homes counter n : ℕ) (m t : Run) → Passes (homes + counter) (stack_word homes counter) m t
+    → word_of homes counter m ≡ n → word_of homes counter t ≡ n
 still homes counter n m t p is = behind_word homes counter m t p.keeps ∙ is
 
 -- up to the branch
@@ -36,8 +37,10 @@ counter_tested homes counter =
 tested_calm : (homes counter : ℕ) → are_calm (counter_tested homes counter) ≡ true
 tested_calm homes counter =
     let left = fetched_at homes counter in
-    let kept = keep_is (λ b. are_calm (b ∷ compare_short cmp.Neq MORE left 0 ∷ []) ≡ true) homes counter refl (λ out. refl) in
-    fetch_is (λ b. are_calm (b ∷ with_short always imm.Sub left left 1 ∷ keep_word homes counter ∷ compare_short cmp.Neq MORE left 0 ∷ []) ≡ true) homes counter kept (λ out. kept)
+    let kept = keep_is (λ b. are_calm (b ∷ compare_short cmp.Neq MORE left 0 ∷ []) ≡ true) homes counter refl
+    (λ out. refl) in
+    fetch_is (λ b. are_calm (b ∷ with_short always imm.Sub left left 1 ∷ keep_word homes counter
+    ∷ compare_short cmp.Neq MORE left 0 ∷ []) ≡ true) homes counter kept (λ out. kept)
 
 -- a counter that was so much and 1, before its branch
 record Counted (homes counter n : ℕ) (m t : Run) : Type 0 where
@@ -46,7 +49,8 @@ record Counted (homes counter n : ℕ) (m t : Run) : Type 0 where
   word : word_of homes counter t ≡ n
   ways : t.ways ≡ m.ways
 
-counter_counted : (from : Sources) (homes counter n : ℕ) (m : Run) → from.stack ≡ true → 1 ≤ homes → IsWhole m → counter < 128 → word_of homes counter m ≡ suc n → suc n < 2 ^ 32
+counter_counted : (from : Sources) (homes counter n : ℕ) (m : Run) → from.stack ≡ true → 1 ≤ homes → IsWhole m
+    → counter < 128 → word_of homes counter m ≡ suc n → suc n < 2 ^ 32
     → Counted homes counter n m (run from (all_done (counter_tested homes counter)) m)
 counter_counted from homes counter n m told some whole few is word =
     let left = fetched_at homes counter in
@@ -54,11 +58,13 @@ counter_counted from homes counter n m told some whole few is word =
     let h1 = once_whole from (fetch_word homes counter) m whole in
     let m2 = once from (with_short always imm.Sub left left 1) m1 in
     let h2 = once_whole from (with_short always imm.Sub left left 1) m1 h1 in
-    let c2 : held left m2 ≡ n = counts_down from left n m1 h1 (fetched_some homes counter some) (fetched_few homes counter) (fetch_leaves from homes counter m told whole few ∙ is) word in
+    let c2 : held left m2 ≡ n = counts_down from left n m1 h1 (fetched_some homes counter some) (fetched_few homes
+    counter) (fetch_leaves from homes counter m told whole few ∙ is) word in
     let m3 = once from (keep_word homes counter) m2 in
     let h3 = once_whole from (keep_word homes counter) m2 h2 in
     let back = keep_leaves from homes counter m2 h2 few in
-    let behind = calm_run from SPARE homes (all_done (compare_short cmp.Neq MORE left 0 ∷ [])) m3 (omega arith) h3 refl in
+    let behind =
+    calm_run from SPARE homes (all_done (compare_short cmp.Neq MORE left 0 ∷ [])) m3 (omega arith) h3 refl in
     let m4 = once from (compare_short cmp.Neq MORE left 0) m3 in
     record {
       whole = behind.whole;
@@ -72,43 +78,58 @@ record TailCounted (homes counter n : ℕ) (m t : Run) : Type 0 where
   keeps : Passes (homes + (counter + 1)) (stack_word homes (counter + 1)) m t
   word : word_of homes counter t ≡ n
 
-tail_counted : (from : Sources) (homes counter n : ℕ) (m : Run) → from.stack ≡ true → 1 ≤ homes → IsWhole m → counter < 128 → word_of homes counter m ≡ suc n → suc n < 2 ^ 32
+tail_counted : (from : Sources) (homes counter n : ℕ) (m : Run) → from.stack ≡ true → 1 ≤ homes → IsWhole m
+    → counter < 128 → word_of homes counter m ≡ suc n → suc n < 2 ^ 32
     → TailCounted homes counter n m (run from (all_done (iterations_tail homes counter)) m)
 tail_counted from homes counter n m told some whole few is word =
     let c = counter_counted from homes counter n m told some whole few is word in
     let t = run from (all_done (counter_tested homes counter)) m in
     let k = calm_run from SPARE homes (all_done (back_again MORE)) t (omega arith) c.whole refl in
     record {
-      keeps = passes_done from (homes + (counter + 1)) (stack_word homes (counter + 1)) (iterations_tail homes counter) m (omega (arith, few)) whole (iterations_tail_low (homes + (counter + 1)) (stack_word homes (counter + 1)) homes counter (omega arith) (omega arith) (stack_before homes counter (counter + 1) (omega arith)));
+      keeps = passes_done from (homes + (counter + 1)) (stack_word homes (counter + 1)) (iterations_tail homes counter)
+          m (omega (arith, few)) whole (iterations_tail_low (homes + (counter + 1)) (stack_word homes (counter + 1))
+          homes counter (omega arith) (omega arith) (stack_before homes counter (counter + 1) (omega arith)));
       word = word_still homes counter t (run from (all_done (back_again MORE)) t) k.high k.stack k.st ∙ c.word;
     }
 
-asks_again : (from : Sources) (homes counter n : ℕ) (m : Run) → from.stack ≡ true → 1 ≤ homes → IsWhole m → counter < 128 → word_of homes counter m ≡ suc (suc n) → suc (suc n) < 2 ^ 32 → AsksAgain (run from) (iterations_tail homes counter) m
+asks_again : (from : Sources) (homes counter n : ℕ) (m : Run) → from.stack ≡ true → 1 ≤ homes → IsWhole m
+    → counter < 128 → word_of homes counter m ≡ suc (suc n) → suc (suc n) < 2 ^ 32
+    → AsksAgain (run from) (iterations_tail homes counter) m
 asks_again from homes counter n m told some whole few is word =
     let c = counter_counted from homes counter (suc n) m told some whole few is word in
-    again from MORE (run from (all_done (counter_tested homes counter)) m) c.whole (c.test ∙ ap not (ne_eqb (suc n) 0 (omega arith))) ∙ ap (λ w. w ++ branches ∷ []) c.ways
+    again from MORE (run from (all_done (counter_tested homes counter)) m) c.whole (c.test
+    ∙ ap not (ne_eqb (suc n) 0 (omega arith))) ∙ ap (λ w. w ++ branches ∷ []) c.ways
 
-asks_no_more : (from : Sources) (homes counter : ℕ) (m : Run) → from.stack ≡ true → 1 ≤ homes → IsWhole m → counter < 128 → word_of homes counter m ≡ 1 → AsksNoMore (run from) (iterations_tail homes counter) m
+asks_no_more : (from : Sources) (homes counter : ℕ) (m : Run) → from.stack ≡ true → 1 ≤ homes → IsWhole m
+    → counter < 128 → word_of homes counter m ≡ 1 → AsksNoMore (run from) (iterations_tail homes counter) m
 asks_no_more from homes counter m told some whole few is =
     let c = counter_counted from homes counter 0 m told some whole few is (omega arith) in
     no_more from MORE (run from (all_done (counter_tested homes counter)) m) c.whole c.test ∙ c.ways
 
 -- all iterations of a loop whose body leaves the counter
-pub counter_iterations : (from : Sources) (f : ℕ → List Step) (Body : Run → Type 0) (body : PlainParts) (homes counter low : ℕ) → from.stack ≡ true → 1 ≤ homes → counter < 128
-    → ((m : Run) → IsWhole m → low ≤ m.st → Body m) → ((m : Run) → IsWhole m → low ≤ m.st → Passes (homes + counter) (stack_word homes counter) m (run from (parts_trail f body) m))
+pub counter_iterations : (from : Sources) (f : ℕ → List Step) (Body : Run → Type 0) (body : PlainParts)
+    (homes counter low : ℕ) → from.stack ≡ true → 1 ≤ homes → counter < 128
+    → ((m : Run) → IsWhole m → low ≤ m.st → Body m) → ((m : Run) → IsWhole m → low ≤ m.st
+    → Passes (homes + counter) (stack_word homes counter) m (run from (parts_trail f body) m))
     → (n : ℕ) → n < 2 ^ 32 → (m : Run) → IsWhole m → low ≤ m.st → word_of homes counter m ≡ n
     → AllIterations (run from) Body (parts_trail f body) (iterations_tail homes counter) n m
 counter_iterations from f Body body homes counter low told some few each passes zero word m whole enough is = tt
 counter_iterations from f Body body homes counter low told some few each passes (suc zero) word m whole enough is =
-    let p = passes m whole enough in
-    (each m whole enough, asks_no_more from homes counter (run from (parts_trail f body) m) told some p.whole few (still homes counter 1 m (run from (parts_trail f body) m) p is))
+    let p = passes m whole enough in (
+      each m whole enough,
+      asks_no_more from homes counter (run from (parts_trail f body) m) told some p.whole few
+          (still homes counter 1 m (run from (parts_trail f body) m) p is),
+    )
 counter_iterations from f Body body homes counter low told some few each passes (suc (suc n)) word m whole enough is =
     let p = passes m whole enough in
     let t = run from (parts_trail f body) m in
-    let c = tail_counted from homes counter (suc n) t told some p.whole few (still homes counter (suc (suc n)) m t p is) word in
+    let c = tail_counted from homes counter (suc n) t told some p.whole few (still homes counter (suc (suc n)) m t p is)
+    word in
     let u = run from (all_done (iterations_tail homes counter)) t in (
       each m whole enough,
       asks_again from homes counter n t told some p.whole few (still homes counter (suc (suc n)) m t p is) word,
-      subst (AllIterations (run from) Body (parts_trail f body) (iterations_tail homes counter) (suc n)) (sym (run_append from (parts_trail f body) (all_done (iterations_tail homes counter)) m))
-          (counter_iterations from f Body body homes counter low told some few each passes (suc n) (omega (arith, word)) u c.keeps.whole (enough_still c.keeps (enough_still p enough)) c.word),
+      subst (AllIterations (run from) Body (parts_trail f body) (iterations_tail homes counter) (suc n))
+          (sym (run_append from (parts_trail f body) (all_done (iterations_tail homes counter)) m))
+          (counter_iterations from f Body body homes counter low told some few each passes (suc n) (omega (arith, word))
+          u c.keeps.whole (enough_still c.keeps (enough_still p enough)) c.word),
     )

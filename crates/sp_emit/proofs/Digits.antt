@@ -1,4 +1,5 @@
--- A digit of a division: what comes of the words of the dividend, which makes way for the quotient, and of what is left.
+-- A digit of a division: what comes of the words of the dividend, which makes way for the quotient, and of what is
+-- left.
 use Rattle.std.proofs.Common.{◌≡◌, ℕ, zero, suc, ◌+◌, ◌-◌, ◌*◌, ◌/◌, ◌%◌, ◌^◌, ◌<◌, ◌≤◌, Bool, true, false, ◌⊎◌, inl, inr, if◌then◌else◌, refl, sym, ap, ◌∙◌, subst, arith, mul-le-mul_right, mul-le-mul_left, pow-suc}
 use Rattle.std.specs.Prelude.{nat_le}
 use Rattle.std.proofs.Math.Arith.{digits_div, digits_mod}
@@ -49,7 +50,8 @@ pub record Bit (a b p u dividend rest : ℕ) (x : Between a b p (2 * u) dividend
   twice : (dividend + dividend) % 2 ^ 32 ≡ l * (2 * p) + 2 * x.q
   room : l * (2 * p) + 2 * x.q + 2 ≤ 2 ^ 32
 
-pub bit_of : (a b p u dividend rest : ℕ) → p * u ≡ 2 ^ 31 → (x : Between a b p (2 * u) dividend rest) → Bit a b p u dividend rest x
+pub bit_of : (a b p u dividend rest : ℕ) → p * u ≡ 2 ^ 31 → (x : Between a b p (2 * u) dividend rest)
+    → Bit a b p u dividend rest x
 bit_of a b p u dividend rest all x = by (cases_lt x.l u)
   where
     below : (l : ℕ) → l < u → l * p + x.q < 2 ^ 31
@@ -87,7 +89,8 @@ bit_of a b p u dividend rest all x = by (cases_lt x.l u)
 
 -- ---- the next digit
 
--- what is left with a bit after it is a word where the divisor is at most 2^31, so the divisor goes into it exactly where
+-- what is left with a bit after it is a word where the divisor is at most 2^31, so the divisor goes into it exactly
+-- where
 -- a word says so
 goes_on : (b bit rest : ℕ) → bit ≤ 1 → rest < b → b ≤ 2 ^ 31 → nat_le b ((2 * rest + bit) % 2 ^ 32) ≡ true
     → (b ≤ 2 * rest + bit) × (((2 * rest + bit) % 2 ^ 32 + (2 ^ 32 - b)) % 2 ^ 32 ≡ 2 * rest + bit - b)
@@ -101,9 +104,11 @@ goes_off b bit rest small less low off =
     let past = leb-false b ((2 * rest + bit) % 2 ^ 32) off in
     (omega (arith, past, small, less, low), omega (arith, small, less, low))
 
-pub next_digit : (a b p u dividend rest : ℕ) → p * u ≡ 2 ^ 31 → a < 2 ^ 32 → b ≤ 2 ^ 31 → Between a b p (2 * u) dividend rest
+pub next_digit : (a b p u dividend rest : ℕ) → p * u ≡ 2 ^ 31 → a < 2 ^ 32 → b ≤ 2 ^ 31
+    → Between a b p (2 * u) dividend rest
     → Between a b (2 * p) u (next_dividend b dividend rest) (next_rest b dividend rest)
-next_digit a b p u dividend rest all word_a low_b x = by (bit_of a b p u dividend rest all x) (goes b dividend rest) refl
+next_digit a b p u dividend rest all word_a low_b x =
+    by (bit_of a b p u dividend rest all x) (goes b dividend rest) refl
   where
     -- the dividend's digits with one more
     split_by : (y : Bit a b p u dividend rest x) → a ≡ (2 * x.h + y.bit) * u + y.l
@@ -117,11 +122,13 @@ next_digit a b p u dividend rest all word_a low_b x = by (bit_of a b p u dividen
     rest_by : (y : Bit a b p u dividend rest x) → shifted dividend rest ≡ (2 * rest + y.bit) % 2 ^ 32
     rest_by y = ap (λ n. (2 * rest + n) % 2 ^ 32) y.top
 
-    goes_by : (y : Bit a b p u dividend rest x) (on : Bool) → goes b dividend rest ≡ on → nat_le b ((2 * rest + y.bit) % 2 ^ 32) ≡ on
+    goes_by : (y : Bit a b p u dividend rest x) (on : Bool) → goes b dividend rest ≡ on
+        → nat_le b ((2 * rest + y.bit) % 2 ^ 32) ≡ on
     goes_by y on is = ap (λ n. nat_le b n) (sym (rest_by y)) ∙ is
 
     by : (y : Bit a b p u dividend rest x) → (on : Bool) → goes b dividend rest ≡ on
-        → Between a b (2 * p) u (if on then ((dividend + dividend) % 2 ^ 32 + 1) % 2 ^ 32 else (dividend + dividend) % 2 ^ 32)
+        → Between a b (2 * p) u (if on then ((dividend + dividend) % 2 ^ 32 + 1) % 2 ^ 32 else (dividend + dividend)
+        % 2 ^ 32)
         (if on then (shifted dividend rest + (2 ^ 32 - b)) % 2 ^ 32 else shifted dividend rest)
     by y true is = record {
       h = 2 * x.h + y.bit;
@@ -131,7 +138,8 @@ next_digit a b p u dividend rest all word_a low_b x = by (bit_of a b p u dividen
       low = y.low;
       digits = omega (arith, y.twice, y.room);
       few = omega (arith, x.few);
-      divided = λ some. let d = x.divided some in let f = goes_on b y.bit rest y.small d.1 low_b (goes_by y true is) in (omega (arith, d.0, f.0, f.1, rest_by y), omega (arith, f.0, f.1, d.1, y.small, rest_by y));
+      divided = λ some. let d = x.divided some in let f = goes_on b y.bit rest y.small d.1 low_b (goes_by y true is) in
+          (omega (arith, d.0, f.0, f.1, rest_by y), omega (arith, f.0, f.1, d.1, y.small, rest_by y));
       by_zero = λ none. omega (arith, none, rest_by y, x.by_zero none, upper_word y);
     }
     by y false is = record {
@@ -142,7 +150,8 @@ next_digit a b p u dividend rest all word_a low_b x = by (bit_of a b p u dividen
       low = y.low;
       digits = y.twice;
       few = omega (arith, x.few);
-      divided = λ some. let d = x.divided some in let f = goes_off b y.bit rest y.small d.1 low_b (goes_by y false is) in (omega (arith, d.0, f.1, rest_by y), omega (arith, f.0, f.1, rest_by y));
+      divided = λ some. let d = x.divided some in let f = goes_off b y.bit rest y.small d.1 low_b
+          (goes_by y false is) in (omega (arith, d.0, f.1, rest_by y), omega (arith, f.0, f.1, rest_by y));
       by_zero = λ none. absurd (omega (arith, none, leb-false b ((2 * rest + y.bit) % 2 ^ 32) (goes_by y false is)));
     }
 
@@ -156,13 +165,16 @@ abbrev pub iterated : ℕ → ℕ → ℕ × ℕ → ℕ × ℕ
 iterated zero b d = d
 iterated (suc n) b d = iterated n b (step b d)
 
-all_digits : (n a b p dividend rest : ℕ) → p * 2 ^ n ≡ 2 ^ 32 → a < 2 ^ 32 → b ≤ 2 ^ 31 → Between a b p (2 ^ n) dividend rest
+all_digits : (n a b p dividend rest : ℕ) → p * 2 ^ n ≡ 2 ^ 32 → a < 2 ^ 32 → b ≤ 2 ^ 31
+    → Between a b p (2 ^ n) dividend rest
     → Between a b (2 ^ 32) 1 (iterated n b (dividend, rest)).0 (iterated n b (dividend, rest)).1
-all_digits zero a b p dividend rest all word_a low_b x = subst (λ k. Between a b k 1 dividend rest) (omega (arith, all)) x
+all_digits zero a b p dividend rest all word_a low_b x =
+    subst (λ k. Between a b k 1 dividend rest) (omega (arith, all)) x
 all_digits (suc n) a b p dividend rest all word_a low_b x =
     let twice : 2 ^ suc n ≡ 2 * 2 ^ n = omega (arith, pow-suc 2 n) in
     let half : p * 2 ^ n ≡ 2 ^ 31 = omega (arith, all, twice, ap (λ k. p * k) twice) in
-    all_digits n a b (2 * p) (next_dividend b dividend rest) (next_rest b dividend rest) (omega (arith, half)) word_a low_b
+    all_digits n a b (2 * p) (next_dividend b dividend rest) (next_rest b dividend rest)
+    (omega (arith, half)) word_a low_b
     (next_digit a b p (2 ^ n) dividend rest half word_a low_b (subst (λ k. Between a b p k dividend rest) twice x))
 
 at_first : (a b : ℕ) → a < 2 ^ 32 → Between a b 1 (2 ^ 32) a 0
@@ -182,7 +194,8 @@ at_last : (a b : ℕ) → a < 2 ^ 32 → b ≤ 2 ^ 31 → Between a b (2 ^ 32) 1
 at_last a b word_a low_b = all_digits 32 a b 1 a 0 refl word_a low_b (at_first a b word_a)
 
 -- the quotient and the rest of words, where the divisor is not 0 and not large; by 0 the rest is all
-pub divides_words : (a b : ℕ) → a < 2 ^ 32 → b ≤ 2 ^ 31 → 0 < b → ((iterated 32 b (a, 0)).0 ≡ a / b) × ((iterated 32 b (a, 0)).1 ≡ a % b)
+pub divides_words : (a b : ℕ) → a < 2 ^ 32 → b ≤ 2 ^ 31 → 0 < b → ((iterated 32 b (a, 0)).0 ≡ a / b)
+    × ((iterated 32 b (a, 0)).1 ≡ a % b)
 divides_words a b word_a low_b some = by (iterated 32 b (a, 0)).0 (iterated 32 b (a, 0)).1 (at_last a b word_a low_b)
   where
     by : (dividend rest : ℕ) → Between a b (2 ^ 32) 1 dividend rest → (dividend ≡ a / b) × (rest ≡ a % b)
@@ -207,4 +220,5 @@ quotient_word a b word_a low_b = by (iterated 32 b (a, 0)).0 (iterated 32 b (a, 
 
 pub rest_word : (a b : ℕ) → a < 2 ^ 32 → b ≤ 2 ^ 31 → (iterated 32 b (a, 0)).1 < 2 ^ 32
 rest_word a zero word_a low_b = subst (λ n. n < 2 ^ 32) (sym (divides_by_zero a word_a)) word_a
-rest_word a (suc b) word_a low_b = subst (λ n. n < 2 ^ 32) (sym (divides_words a (suc b) word_a low_b (omega arith)).1) (omega (arith, mod-le a (suc b), word_a))
+rest_word a (suc b) word_a low_b = subst (λ n. n < 2 ^ 32) (sym (divides_words a (suc b) word_a low_b (omega arith)).1)
+    (omega (arith, mod-le a (suc b), word_a))

@@ -26,7 +26,8 @@ power_quotient x n is =
     ap (λ k. x / 2 ^ k) few ∙ ap (λ y. x / y) (power_is n is)
 
 pub power_rest : (x n : ℕ) → is_power n ≡ true → bit_and x (n - 1) ≡ x % n
-power_rest x n is = ap (λ y. bit_and x (y - 1)) (sym (power_is n is)) ∙ and_mask x (highest n) ∙ ap (λ y. x % y) (power_is n is)
+power_rest x n is =
+    ap (λ y. bit_and x (y - 1)) (sym (power_is n is)) ∙ and_mask x (highest n) ∙ ap (λ y. x % y) (power_is n is)
 
 -- ---- factors
 
@@ -41,7 +42,12 @@ unfolding is_exact
 exact_parts most n is =
     let a = and_parts (nat_lt 1 n) (nat_lt (factor n) (2 ^ 32) && nat_lt (surplus n * most) (scale n)) is in
     let b = and_parts (nat_lt (factor n) (2 ^ 32)) (nat_lt (surplus n * most) (scale n)) a.1 in
-    record { some = ltb-true 1 n a.0; word = ltb-true (factor n) (2 ^ 32) b.0; small = ltb-true (surplus n * most) (scale n) b.1 }
+    record {
+      some = ltb-true 1 n a.0;
+      word = ltb-true (factor n) (2 ^ 32) b.0;
+      small = ltb-true (surplus n * most)
+          (scale n) b.1;
+    }
 
 scale_some : (n : ℕ) → 1 ≤ scale n
 unfolding scale
@@ -69,7 +75,8 @@ shared x n f s e is small some =
 pub exact_quotient : (most n x : ℕ) → Exact most n → x ≤ most → x * factor n / scale n ≡ x / n
 exact_quotient most n x e le =
     let less : surplus n * x ≤ surplus n * most = mul-le-mul_left (surplus n) le in
-    shared x n (factor n) (scale n) (surplus n) (factor_times n e.some) (omega (arith, less, e.small)) (omega (arith, e.some))
+    shared x n (factor n) (scale n) (surplus n) (factor_times n e.some) (omega (arith, less, e.small))
+    (omega (arith, e.some))
 
 moved_few : (n : ℕ) → moved n < 32
 unfolding moved
@@ -80,4 +87,5 @@ pub upper_moved : (y n : ℕ) → moved_down (high_word y) (moved n) ≡ y / sca
 unfolding scale
 upper_moved y n =
     let few : moved n % 32 ≡ moved n = omega (arith, moved_few n) in
-    ap (λ k. y / 2 ^ 32 / 2 ^ k) few ∙ div-div-eq-div-mul y (2 ^ 32) (2 ^ moved n) ∙ ap (λ p. y / p) (sym (pow-add 2 32 (moved n)))
+    ap (λ k. y / 2 ^ 32 / 2 ^ k) few ∙ div-div-eq-div-mul y (2 ^ 32) (2 ^ moved n)
+    ∙ ap (λ p. y / p) (sym (pow-add 2 32 (moved n)))

@@ -51,29 +51,40 @@ use Rattle.sp_emit.specs.declared.stands.Flags.{Flags}
 
 -- ---- tests
 
-compare_told : (func : CmpFunc) (ra rb : ℕ) (m : Run) → IsWhole m → so TEST (once by_words (compare func TEST ra rb) m) ≡ compare_value func (held ra m) (held rb m)
-compare_told func ra rb m whole = ap (so TEST) (did_compare by_words func TEST ra rb m whole) ∙ so_got TEST (compare_value func (held ra m) (held rb m)) m whole (omega arith) (omega arith)
+compare_told : (func : CmpFunc) (ra rb : ℕ) (m : Run) → IsWhole m → so TEST (once by_words (compare func TEST ra rb) m)
+    ≡ compare_value func (held ra m) (held rb m)
+compare_told func ra rb m whole = ap (so TEST) (did_compare by_words func TEST ra rb m whole)
+    ∙ so_got TEST (compare_value func (held ra m) (held rb m)) m whole (omega arith) (omega arith)
 
-short_told : (func : CmpFunc) (ra n : ℕ) (m : Run) → IsWhole m → so TEST (once by_words (compare_short func TEST ra n) m) ≡ compare_value func (held ra m) n
-short_told func ra n m whole = ap (so TEST) (did_compare_short by_words func TEST ra n m whole) ∙ so_got TEST (compare_value func (held ra m) n) m whole (omega arith) (omega arith)
+short_told : (func : CmpFunc) (ra n : ℕ) (m : Run) → IsWhole m
+    → so TEST (once by_words (compare_short func TEST ra n) m) ≡ compare_value func (held ra m) n
+short_told func ra n m whole = ap (so TEST) (did_compare_short by_words func TEST ra n m whole)
+    ∙ so_got TEST (compare_value func (held ra m) n) m whole (omega arith) (omega arith)
 
 -- of an operator on the words of two registers, and on one and a number
-two_told : (op : SpBinary) (ra rb : ℕ) (m : Run) → (is_some (cmp_of op) || is_some (both_of op)) ≡ true → IsWhole m → rb < 32 → flag (so TEST (run by_words (all_done (by_two (cmp_of op) op ra rb)) m)) ≡ binary_value op (held ra m) (held rb m)
-two_told binary.Or ra rb m test whole second = ap flag (ap (so TEST) (both_tested by_words comb.Por ra rb m whole second) ∙ both_told comb.Por ra rb m whole)
-two_told binary.And ra rb m test whole second = ap flag (ap (so TEST) (both_tested by_words comb.Pand ra rb m whole second) ∙ both_told comb.Pand ra rb m whole)
+two_told : (op : SpBinary) (ra rb : ℕ) (m : Run) → (is_some (cmp_of op) || is_some (both_of op)) ≡ true → IsWhole m
+    → rb < 32 → flag (so TEST (run by_words (all_done (by_two (cmp_of op) op ra rb)) m))
+    ≡ binary_value op (held ra m) (held rb m)
+two_told binary.Or ra rb m test whole second =
+    ap flag (ap (so TEST) (both_tested by_words comb.Por ra rb m whole second) ∙ both_told comb.Por ra rb m whole)
+two_told binary.And ra rb m test whole second =
+    ap flag (ap (so TEST) (both_tested by_words comb.Pand ra rb m whole second) ∙ both_told comb.Pand ra rb m whole)
 two_told binary.Equal ra rb m test whole second = ap flag (compare_told cmp.Eq ra rb m whole)
 two_told binary.NotEqual ra rb m test whole second = ap flag (compare_told cmp.Neq ra rb m whole)
 two_told binary.Less ra rb m test whole second = ap flag (compare_told cmp.Lt ra rb m whole)
 two_told binary.LessUnsigned ra rb m test whole second = ap flag (compare_told cmp.Ult ra rb m whole)
 two_told binary.LessEqual ra rb m test whole second = ap flag (compare_told cmp.Le ra rb m whole)
-two_told binary.LessEqualUnsigned ra rb m test whole second = ap flag (compare_told cmp.Ule ra rb m whole ∙ not_lt (held ra m) (held rb m))
+two_told binary.LessEqualUnsigned ra rb m test whole second =
+    ap flag (compare_told cmp.Ule ra rb m whole ∙ not_lt (held ra m) (held rb m))
 two_told _ ra rb m test whole second = absurd (true≢false (sym test))
 
 -- the lowest bit of a word
 lowest : (w : ℕ) → flag (has_bit w 0) ≡ bit_and w 1
 lowest w = (let e : flag (w / 1 % 2 == 1) ≡ w % 2 = grind arith in e) ∙ sym (and_mask w 1)
 
-number_told : (op : SpBinary) (ra n : ℕ) (m : Run) → ((is_some (cmp_of op) || is_some (both_of op)) || (is_masking op && (n == 1))) ≡ true → is_immediate op (constant n) ≡ true → IsWhole m → flag (so TEST (run by_words (all_done (by_number (cmp_of op) ra n)) m)) ≡ binary_value op (held ra m) n
+number_told : (op : SpBinary) (ra n : ℕ) (m : Run) → ((is_some (cmp_of op) || is_some (both_of op))
+    || (is_masking op && (n == 1))) ≡ true → is_immediate op (constant n) ≡ true → IsWhole m
+    → flag (so TEST (run by_words (all_done (by_number (cmp_of op) ra n)) m)) ≡ binary_value op (held ra m) n
 number_told binary.Or ra n m test is whole = let none = short_below binary.Or n is in absurd (omega (arith, none))
 number_told binary.And ra n m test is whole = let none = short_below binary.And n is in absurd (omega (arith, none))
 number_told binary.Equal ra n m test is whole = ap flag (short_told cmp.Eq ra n m whole)
@@ -81,14 +92,19 @@ number_told binary.NotEqual ra n m test is whole = ap flag (short_told cmp.Neq r
 number_told binary.Less ra n m test is whole = ap flag (short_told cmp.Lt ra n m whole)
 number_told binary.LessUnsigned ra n m test is whole = ap flag (short_told cmp.Ult ra n m whole)
 number_told binary.LessEqual ra n m test is whole = ap flag (short_told cmp.Le ra n m whole)
-number_told binary.LessEqualUnsigned ra n m test is whole = ap flag (short_told cmp.Ule ra n m whole ∙ not_lt (held ra m) n)
+number_told binary.LessEqualUnsigned ra n m test is whole =
+    ap flag (short_told cmp.Ule ra n m whole ∙ not_lt (held ra m) n)
 number_told binary.BitAnd ra n m test is whole =
-    ap flag (short_told cmp.Btest ra 0 m whole) ∙ lowest (held ra m) ∙ ap (bit_and (held ra m)) (sym (eqb-true n 1 test))
+    ap flag (short_told cmp.Btest ra 0 m whole) ∙ lowest (held ra m)
+    ∙ ap (bit_and (held ra m)) (sym (eqb-true n 1 test))
 number_told _ ra n m test is whole = absurd (true≢false (sym test))
 
 -- an operator on two words is a condition where it is tested
-condition_of : (op : SpBinary) (b : PlainSp) → ((is_some (cmp_of op) || is_some (both_of op)) || (is_masking op && is_one b)) ≡ true → is_immediate op b ≡ false → (is_some (cmp_of op) || is_some (both_of op)) ≡ true
-condition_of binary.BitAnd (constant n) test other = absurd (true≢false (sym (ap (λ k. is_immediate binary.BitAnd (constant k)) (eqb-true n 1 test)) ∙ other))
+condition_of : (op : SpBinary) (b : PlainSp) → ((is_some (cmp_of op) || is_some (both_of op))
+    || (is_masking op && is_one b)) ≡ true → is_immediate op b ≡ false → (is_some (cmp_of op) || is_some (both_of op))
+    ≡ true
+condition_of binary.BitAnd (constant n) test other =
+    absurd (true≢false (sym (ap (λ k. is_immediate binary.BitAnd (constant k)) (eqb-true n 1 test)) ∙ other))
 condition_of binary.BitAnd (frame_word slot) test other = absurd (true≢false (sym test))
 condition_of binary.BitAnd (cell_word cell) test other = absurd (true≢false (sym test))
 condition_of binary.BitAnd (array_word array index) test other = absurd (true≢false (sym test))
@@ -104,43 +120,64 @@ not_not false = refl
 abbrev tested : Homes → (ℕ → List Step) → PlainSp → Run → Run
 tested homes f e m = run by_words (all_done (test_of homes e)) (worked homes f e FIRST m)
 
-test_told : {homes : Homes} {slots : ℕ} {s : State} {m : Run} (f : ℕ → List Step) (e : PlainSp) → IsReady homes slots e FIRST s m → is_test e ≡ true → flag (so TEST (tested homes f e m)) ≡ sp_value s.frame s.world e
+test_told : {homes : Homes} {slots : ℕ} {s : State} {m : Run} (f : ℕ → List Step) (e : PlainSp)
+    → IsReady homes slots e FIRST s m → is_test e ≡ true → flag (so TEST (tested homes f e m))
+    ≡ sp_value s.frame s.world e
 test_told {homes} {slots} {s} {m} f (constant n) r test =
-    ap (λ t. flag (so TEST t)) (did_combine by_words comb.Pxor TEST 0 0 m r.whole) ∙ ap flag (so_got TEST (pred_value comb.Pxor (so 0 m) (so 0 m)) m r.whole (omega arith) (omega arith))
+    ap (λ t. flag (so TEST t)) (did_combine by_words comb.Pxor TEST 0 0 m r.whole)
+    ∙ ap flag (so_got TEST (pred_value comb.Pxor (so 0 m) (so 0 m)) m r.whole (omega arith) (omega arith))
     ∙ ap (λ b. flag (pred_value comb.Pxor b b)) r.whole.fits.always ∙ sym (eqb-true n 0 test)
 test_told f (before_one unary.Minus of) r test = absurd (true≢false (sym test))
 test_told f (before_one unary.Complement of) r test = absurd (true≢false (sym test))
 test_told {homes} {slots} {s} {m} f (before_one unary.Not of) r test =
     let n = worked homes f (before_one unary.Not of) FIRST m in
     ap flag (short_told cmp.Eq (value_at homes of FIRST) 0 n (worked_keeps f (before_one unary.Not of) r).whole)
-    ∙ ap (λ v. flag (v == 0)) (operand_left f of (operand_ready unary.Not of r) (left_anywhere homes slots f of s)) ∙ not_not (sp_value s.frame s.world of == 0)
-test_told {homes} {slots} {s} {m} f (between_two op a b) r test = by b r test (is_immediate op b) refl (nat_lt (need a) (need b)) refl (worked_keeps f (between_two op a b) r).whole
+    ∙ ap (λ v. flag (v == 0)) (operand_left f of (operand_ready unary.Not of r) (left_anywhere homes slots f of s))
+    ∙ not_not (sp_value s.frame s.world of == 0)
+test_told {homes} {slots} {s} {m} f (between_two op a b) r test =
+    by b r test (is_immediate op b) refl (nat_lt (need a) (need b)) refl (worked_keeps f (between_two op a b) r).whole
   where
-    by : (b : PlainSp) → IsReady homes slots (between_two op a b) FIRST s m → is_test (between_two op a b) ≡ true → (is : Bool) → is_immediate op b ≡ is → (less : Bool) → nat_lt (need a) (need b) ≡ less
-        → IsWhole (run by_words (parts_trail f (if is then operand_code homes a FIRST else if less then joined (operand_code homes b FIRST) (operand_code homes a (FIRST + 1)) else joined (operand_code homes a FIRST) (operand_code homes b (FIRST + 1)))) m)
-        → flag (so TEST (run by_words (all_done (if is then by_number (cmp_of op) (value_at homes a FIRST) (number_of b) else if less then by_two (cmp_of op) op (value_at homes a (FIRST + 1)) (value_at homes b FIRST) else by_two (cmp_of op) op (value_at homes a FIRST) (value_at homes b (FIRST + 1))))
-        (run by_words (parts_trail f (if is then operand_code homes a FIRST else if less then joined (operand_code homes b FIRST) (operand_code homes a (FIRST + 1)) else joined (operand_code homes a FIRST) (operand_code homes b (FIRST + 1)))) m)))
+    by : (b : PlainSp) → IsReady homes slots (between_two op a b) FIRST s m → is_test (between_two op a b) ≡ true
+        → (is : Bool) → is_immediate op b ≡ is → (less : Bool) → nat_lt (need a) (need b) ≡ less
+        → IsWhole (run by_words (parts_trail f (if is then operand_code homes a FIRST else if less then joined
+        (operand_code homes b FIRST) (operand_code homes a (FIRST + 1)) else joined (operand_code homes a FIRST)
+        (operand_code homes b (FIRST + 1)))) m)
+        → flag (so TEST
+        (run by_words (all_done (if is then by_number (cmp_of op) (value_at homes a FIRST) (number_of b) else if
+        less then by_two (cmp_of op) op (value_at homes a (FIRST + 1)) (value_at homes b FIRST) else by_two
+        (cmp_of op) op (value_at homes a FIRST) (value_at homes b (FIRST + 1))))
+        (run by_words (parts_trail f (if is then operand_code homes a FIRST else if less then joined
+        (operand_code homes b FIRST) (operand_code homes a (FIRST + 1)) else joined (operand_code homes a FIRST)
+        (operand_code homes b (FIRST + 1)))) m)))
         ≡ binary_value op (sp_value s.frame s.world a) (sp_value s.frame s.world b)
     by (constant n) r test true is less less_is whole =
         let t = run by_words (parts_trail f (operand_code homes a FIRST)) m in
-        let x = one_stands f op a (constant n) (left_anywhere homes slots f a s) FIRST m r (FIRST + 2) t (omega arith) (keeps_all (FIRST + 2) homes.first t whole) in
+        let x = one_stands f op a (constant n) (left_anywhere homes slots f a s) FIRST m r (FIRST + 2) t (omega arith)
+        (keeps_all (FIRST + 2) homes.first t whole) in
         number_told op (value_at homes a FIRST) n t test is whole ∙ ap (λ v. binary_value op v n) x.is
     by b r test false is true less_is whole =
-        let t = run by_words (parts_trail f (joined (operand_code homes b FIRST) (operand_code homes a (FIRST + 1)))) m in
-        let x = second_stands f op a b (left_anywhere homes slots f a s) (left_anywhere homes slots f b s) FIRST m r less_is (FIRST + 2) t (omega arith) (keeps_all (FIRST + 2) homes.first t whole) in
+        let t = run by_words (parts_trail f (joined (operand_code homes b FIRST) (operand_code homes a (FIRST + 1))))
+        m in
+        let x = second_stands f op a b (left_anywhere homes slots f a s) (left_anywhere homes slots f b s) FIRST m r
+        less_is (FIRST + 2) t (omega arith) (keeps_all (FIRST + 2) homes.first t whole) in
         let low = x.1.low in
-        two_told op (value_at homes a (FIRST + 1)) (value_at homes b FIRST) t (condition_of op b test is) whole (omega (arith, low)) ∙ ap₂ (binary_value op) x.0.is x.1.is
+        two_told op (value_at homes a (FIRST + 1)) (value_at homes b FIRST) t (condition_of op b test is) whole (omega
+        (arith, low)) ∙ ap₂ (binary_value op) x.0.is x.1.is
     by b r test false is false less_is whole =
-        let t = run by_words (parts_trail f (joined (operand_code homes a FIRST) (operand_code homes b (FIRST + 1)))) m in
-        let x = first_stands f op a b (left_anywhere homes slots f a s) (left_anywhere homes slots f b s) FIRST m r less_is (FIRST + 2) t (omega arith) (keeps_all (FIRST + 2) homes.first t whole) in
+        let t = run by_words (parts_trail f (joined (operand_code homes a FIRST) (operand_code homes b (FIRST + 1))))
+        m in
+        let x = first_stands f op a b (left_anywhere homes slots f a s) (left_anywhere homes slots f b s) FIRST m r
+        less_is (FIRST + 2) t (omega arith) (keeps_all (FIRST + 2) homes.first t whole) in
         let low = x.1.low in
-        two_told op (value_at homes a FIRST) (value_at homes b (FIRST + 1)) t (condition_of op b test is) whole (omega (arith, low)) ∙ ap₂ (binary_value op) x.0.is x.1.is
+        two_told op (value_at homes a FIRST) (value_at homes b (FIRST + 1)) t (condition_of op b test is) whole (omega
+        (arith, low)) ∙ ap₂ (binary_value op) x.0.is x.1.is
     by _ r test true is less less_is whole = absurd (true≢false (sym is))
 test_told f _ r test = absurd (true≢false (sym test))
 
 -- ---- truths that stand in predicates
 
-bits_same : (op : SpBinary) → is_some (bits_of op) ≡ true → (x y : Bool) → flag (pred_value (func_in (bits_of op)) x y) ≡ binary_value op (flag x) (flag y)
+bits_same : (op : SpBinary) → is_some (bits_of op) ≡ true → (x y : Bool) → flag (pred_value (func_in (bits_of op)) x y)
+    ≡ binary_value op (flag x) (flag y)
 bits_same binary.BitOr is true true = refl
 bits_same binary.BitOr is true false = refl
 bits_same binary.BitOr is false true = refl
@@ -167,24 +204,35 @@ pub record Stood (homes : Homes) (e : PlainSp) (p : ℕ) (s : State) (m : Run) :
   pub value : flag (so p m) ≡ sp_value s.frame s.world e
   pub stays : {rd : ℕ} (t : Run) → Keeps rd homes.first m t → so p t ≡ so p m
 
-word_stood : {homes : Homes} {slots : ℕ} {s : State} {m : Run} (slot p : ℕ) → Shows homes slots s m → slot < slots → flag_of homes.flags slot ≡ Some p → Stood homes (frame_word slot) p s m
+word_stood : {homes : Homes} {slots : ℕ} {s : State} {m : Run} (slot p : ℕ) → Shows homes slots s m → slot < slots
+    → flag_of homes.flags slot ≡ Some p → Stood homes (frame_word slot) p s m
 word_stood {homes} {slots} {s} {m} slot p shows named is =
     let r = flag_range homes.flags slot p is in
-    record { value = sym (shown_flag homes slot p m is) ∙ shows.frame slot named; stays = λ t keeps. keeps.flags p r.0 r.1 }
+    record {
+      value = sym (shown_flag homes slot p m is) ∙ shows.frame slot named;
+      stays = λ t keeps.
+          keeps.flags p r.0 r.1;
+    }
 
 one_is : (b : PlainSp) (s : State) → is_one b ≡ true → sp_value s.frame s.world b ≡ 1
 one_is (constant n) s is = eqb-true n 1 is
 one_is _ s is = absurd (true≢false (sym is))
 
-pub stood : {homes : Homes} {slots : ℕ} {s : State} {m : Run} (e : PlainSp) (p : ℕ) → Shows homes slots s m → IsWhole m → names_words slots e ≡ true → flag_at homes.flags e ≡ Some p → Stood homes e p s m
+pub stood : {homes : Homes} {slots : ℕ} {s : State} {m : Run} (e : PlainSp) (p : ℕ) → Shows homes slots s m → IsWhole m
+    → names_words slots e ≡ true → flag_at homes.flags e ≡ Some p → Stood homes e p s m
 stood {homes} {slots} {s} {m} (constant n) p shows whole named is = by (n == 1) refl is
   where
     by : (b : Bool) → (n == 1) ≡ b → (if b then Some 0 else None) ≡ Some p → Stood homes (constant n) p s m
     by true one is =
         let same : 0 ≡ p = grind (arith, is) in
-        subst (λ q. Stood homes (constant n) q s m) same (record { value = ap flag whole.fits.always ∙ sym (eqb-true n 1 one); stays = λ t keeps. keeps.whole.fits.always ∙ sym whole.fits.always })
+        subst (λ q. Stood homes (constant n) q s m) same (record {
+          value = ap flag whole.fits.always
+              ∙ sym (eqb-true n 1 one);
+          stays = λ t keeps. keeps.whole.fits.always ∙ sym whole.fits.always;
+        })
     by false one is = absurd cc
-stood {homes} {slots} {s} {m} (frame_word slot) p shows whole named is = word_stood slot p shows (ltb-true slot slots named) is
+stood {homes} {slots} {s} {m} (frame_word slot) p shows whole named is =
+    word_stood slot p shows (ltb-true slot slots named) is
 stood (cell_word cell) p shows whole named is = absurd cc
 stood (array_word array index) p shows whole named is = absurd cc
 stood (before_one op of) p shows whole named is = absurd cc
@@ -197,27 +245,32 @@ stood {homes} {slots} {s} {m} (between_two op a b) p shows whole named is = by (
     word (frame_word slot) named is = word_stood slot p shows (ltb-true slot slots named) is
     word _ named is = absurd cc
 
-    by : (c : Bool) → (is_same op && is_one b) ≡ c → (if c then word_flag homes.flags a else None) ≡ Some p → Stood homes (between_two op a b) p s m
+    by : (c : Bool) → (is_same op && is_one b) ≡ c → (if c then word_flag homes.flags a else None) ≡ Some p
+        → Stood homes (between_two op a b) p s m
     by false other is = absurd cc
     by true same is =
         let parts = and_parts (is_same op) (is_one b) same in
         let x = word a names.0 is in
         record {
-          value = same_truth op parts.0 (so p m) ∙ ap (λ v. binary_value op v 1) x.value ∙ ap (binary_value op (sp_value s.frame s.world a)) (sym (one_is b s parts.1));
+          value = same_truth op parts.0 (so p m) ∙ ap (λ v. binary_value op v 1) x.value
+              ∙ ap (binary_value op (sp_value s.frame s.world a)) (sym (one_is b s parts.1));
           stays = x.stays;
         }
 
 -- ---- what is kept before the bundle that sets the predicate
 
 calm_tests : (homes : Homes) (bs : List Slots) → AreTests bs → parts_calm FIRST homes.first (one (straight bs)) ≡ true
-calm_tests homes bs tests = lone_calm FIRST homes.first bs (all_weaker is_test_bundle (is_calm FIRST homes.first) (test_calm homes) bs tests)
+calm_tests homes bs tests =
+    lone_calm FIRST homes.first bs (all_weaker is_test_bundle (is_calm FIRST homes.first) (test_calm homes) bs tests)
   where
     test_calm : (homes : Homes) (b : Slots) → is_test_bundle b ≡ true → is_calm FIRST homes.first b ≡ true
     test_calm homes b test = grind (arith, test)
 
 bit_calm : (homes : Homes) (slot : ℕ) → is_calm_trail FIRST homes.first (all_done (bit_sought homes.first slot)) ≡ true
 bit_calm homes slot =
-    fetch_is (λ b. is_calm_trail FIRST homes.first (all_done (b ∷ compare_short cmp.Btest SECOND (fetched_at homes.first slot) 0 ∷ [])) ≡ true) homes.first slot refl (λ out. refl)
+    fetch_is (λ b. is_calm_trail FIRST homes.first (all_done
+    (b ∷ compare_short cmp.Btest SECOND (fetched_at homes.first slot) 0 ∷ [])) ≡ true) homes.first slot
+    refl (λ out. refl)
 
 calm_parts : (homes : Homes) → TruthParts (λ ps. parts_calm FIRST homes.first ps ≡ true) homes (Fitting homes)
 calm_parts homes = record {
@@ -227,16 +280,22 @@ calm_parts homes = record {
   second = second_fitting homes;
   operands = λ e h. operands_calm homes FIRST e FIRST (omega arith) h.0 h.1;
   tests = calm_tests homes;
-  bits = λ slot h. lone_calm FIRST homes.first (bit_sought homes.first slot) (fetch_is (λ b. list_all (is_calm FIRST homes.first) (b ∷ compare_short cmp.Btest SECOND (fetched_at homes.first slot) 0 ∷ []) ≡ true) homes.first slot refl (λ out. refl));
+  bits = λ slot h. lone_calm FIRST homes.first (bit_sought homes.first slot)
+      (fetch_is (λ b. list_all (is_calm FIRST homes.first) (b ∷ compare_short cmp.Btest SECOND (fetched_at homes.first
+      slot) 0 ∷ []) ≡ true) homes.first slot refl (λ out. refl));
 }
 
 tests_calm : (homes : Homes) (e : PlainSp) → Fitting homes e → parts_calm FIRST homes.first (tested_code homes e) ≡ true
 tests_calm homes e h =
-    joined_calm FIRST homes.first (operands_code homes e FIRST) (one (straight (test_of homes e))) (operands_calm homes FIRST e FIRST (omega arith) h.0 h.1) (calm_tests homes (test_of homes e) (of_tests homes e))
+    joined_calm FIRST homes.first (operands_code homes e FIRST) (one (straight (test_of homes e)))
+    (operands_calm homes FIRST e FIRST (omega arith) h.0 h.1) (calm_tests homes (test_of homes e)
+    (of_tests homes e))
 
-tested_calm : {homes : Homes} {slots : ℕ} {s : State} {m : Run} (f : ℕ → List Step) (e : PlainSp) → IsReady homes slots e FIRST s m → Keeps FIRST homes.first m (run by_words (parts_trail f (tested_code homes e)) m)
+tested_calm : {homes : Homes} {slots : ℕ} {s : State} {m : Run} (f : ℕ → List Step) (e : PlainSp)
+    → IsReady homes slots e FIRST s m → Keeps FIRST homes.first m (run by_words (parts_trail f (tested_code homes e)) m)
 tested_calm {homes} {slots} {s} {m} f e r =
-    calm_run by_words FIRST homes.first (parts_trail f (tested_code homes e)) m (omega arith) r.whole (parts_trail_calm f FIRST homes.first (tested_code homes e) (tests_calm homes e (fits_of r, r.free)))
+    calm_run by_words FIRST homes.first (parts_trail f (tested_code homes e)) m (omega arith) r.whole
+    (parts_trail_calm f FIRST homes.first (tested_code homes e) (tests_calm homes e (fits_of r, r.free)))
 
 -- ---- the truth of an expression in the predicate of a test
 
@@ -246,12 +305,15 @@ record Second (homes : Homes) (b : PlainSp) (p : ℕ) (s : State) (m n : Run) : 
   value : flag (so p n) ≡ sp_value s.frame s.world b
 
 -- two truths are joined: where the first one is the lowest bit of a word, that is masked
-joined_value : {homes : Homes} {s : State} {m n : Run} (op : SpBinary) (a b : PlainSp) (p q : ℕ) → is_some (bits_of op) ≡ true → Stood homes a p s m → Second homes b q s m n
+joined_value : {homes : Homes} {s : State} {m n : Run} (op : SpBinary) (a b : PlainSp) (p q : ℕ) → is_some (bits_of op)
+    ≡ true → Stood homes a p s m → Second homes b q s m n
     → flag (pred_value (func_in (bits_of op)) (so p n) (so q n)) ≡ sp_value s.frame s.world (between_two op a b)
 joined_value {homes} {s} {m} {n} op a b p q bits first second =
-    bits_same op bits (so p n) (so q n) ∙ ap₂ (binary_value op) (ap flag (first.stays n second.keeps) ∙ first.value) second.value
+    bits_same op bits (so p n) (so q n) ∙ ap₂ (binary_value op) (ap flag (first.stays n second.keeps)
+    ∙ first.value) second.value
 
-masked_value : (op : SpBinary) (w : ℕ) (y : Bool) → is_masking op ≡ true → flag (pred_value (func_in (bits_of op)) (has_bit w 0) y) ≡ binary_value op w (flag y)
+masked_value : (op : SpBinary) (w : ℕ) (y : Bool) → is_masking op ≡ true
+    → flag (pred_value (func_in (bits_of op)) (has_bit w 0) y) ≡ binary_value op w (flag y)
 masked_value binary.BitAnd w y is = by (has_bit w 0) y (lowest w)
   where
     by : (x y : Bool) → flag x ≡ bit_and w 1 → flag (x && y) ≡ bit_and w (flag y)
@@ -260,27 +322,38 @@ masked_value binary.BitAnd w y is = by (has_bit w 0) y (lowest w)
 masked_value op w y is = absurd (true≢false (sym is))
 
 -- the second operand, in the predicate where it stands or in that of the test
-second_told : {homes : Homes} {slots : ℕ} {s : State} {m : Run} (f : ℕ → List Step) (b : PlainSp) → IsReady homes slots b FIRST s m
-    → (flag_at homes.flags b ≡ None → flag (so TEST (run by_words (parts_trail f (truth_code homes b)) m)) ≡ sp_value s.frame s.world b)
-    → Second homes b (told_in (flag_at homes.flags b)) s m (run by_words (parts_trail f (unless_stands (flag_at homes.flags b) (truth_code homes b))) m)
+second_told : {homes : Homes} {slots : ℕ} {s : State} {m : Run} (f : ℕ → List Step) (b : PlainSp)
+    → IsReady homes slots b FIRST s m
+    → (flag_at homes.flags b ≡ None → flag (so TEST (run by_words (parts_trail f (truth_code homes b)) m))
+    ≡ sp_value s.frame s.world b)
+    → Second homes b (told_in (flag_at homes.flags b)) s m (run by_words
+    (parts_trail f (unless_stands (flag_at homes.flags b) (truth_code homes b))) m)
 second_told {homes} {slots} {s} {m} f b r told = by (flag_at homes.flags b) refl
   where
-    by : (o : Option ℕ) → flag_at homes.flags b ≡ o → Second homes b (told_in o) s m (run by_words (parts_trail f (unless_stands o (truth_code homes b))) m)
+    by : (o : Option ℕ) → flag_at homes.flags b ≡ o → Second homes b (told_in o) s m (run by_words
+        (parts_trail f (unless_stands o (truth_code homes b))) m)
     by None is = record {
-      keeps = calm_run by_words FIRST homes.first (parts_trail f (truth_code homes b)) m (omega arith) r.whole (parts_trail_calm f FIRST homes.first (truth_code homes b) (truth_is (calm_parts homes) b (fits_of r, r.free)));
+      keeps = calm_run by_words FIRST homes.first (parts_trail f (truth_code homes b)) m (omega arith) r.whole
+          (parts_trail_calm f FIRST homes.first (truth_code homes b) (truth_is (calm_parts homes) b
+          (fits_of r, r.free)));
       value = told is;
     }
-    by (Some p) is = record { keeps = keeps_all FIRST homes.first m r.whole; value = (stood b p r.shows r.whole r.names is).value }
+    by (Some p) is =
+        record { keeps = keeps_all FIRST homes.first m r.whole; value = (stood b p r.shows r.whole r.names is).value }
 
 -- the second operand is ready where the whole is
-second_is_ready : {homes : Homes} {slots : ℕ} {s : State} {m : Run} (op : SpBinary) (a b : PlainSp) → IsReady homes slots (between_two op a b) FIRST s m → IsReady homes slots b FIRST s m
+second_is_ready : {homes : Homes} {slots : ℕ} {s : State} {m : Run} (op : SpBinary) (a b : PlainSp)
+    → IsReady homes slots (between_two op a b) FIRST s m → IsReady homes slots b FIRST s m
 second_is_ready {homes} {slots} {s} {m} op a b r =
-    second_ready op a b r FIRST m (omega arith) (second_fits op a b (fits_of r)).registers (omega (arith, r.free, (covers (nat_lt (need a) (need b)) (need a) (need b)).1)) (keeps_all FIRST homes.first m r.whole)
+    second_ready op a b r FIRST m (omega arith) (second_fits op a b (fits_of r)).registers
+    (omega (arith, r.free, (covers (nat_lt (need a) (need b)) (need a) (need b)).1))
+    (keeps_all FIRST homes.first m r.whole)
 
 -- where the predicates of both operands stand once their code is done
 record Joined (homes : Homes) (op : SpBinary) (a b : PlainSp) (s : State) (m n : Run) : Type 0 where
   keeps : Keeps FIRST homes.first m n
-  value : flag (pred_value (func_in (bits_of op)) (so (sought_in (flag_at homes.flags a)) n) (so (told_in (flag_at homes.flags b)) n)) ≡ sp_value s.frame s.world (between_two op a b)
+  value : flag (pred_value (func_in (bits_of op)) (so (sought_in (flag_at homes.flags a)) n)
+      (so (told_in (flag_at homes.flags b)) n)) ≡ sp_value s.frame s.world (between_two op a b)
 
 -- the predicate of a truth, which is that of no second test
 record Apart (p : ℕ) : Type 0 where
@@ -319,11 +392,15 @@ record Sought (homes : Homes) (slot : ℕ) (m t : Run) : Type 0 where
   bit : so SECOND t ≡ has_bit (word_of homes.first slot m) 0
   others : (q : ℕ) → Apart q → so q t ≡ so q m
 
-bit_seen : (homes : Homes) (slot : ℕ) (m : Run) → IsWhole m → slot < 128 → Sought homes slot m (run by_words (all_done (bit_sought homes.first slot)) m)
+bit_seen : (homes : Homes) (slot : ℕ) (m : Run) → IsWhole m → slot < 128
+    → Sought homes slot m (run by_words (all_done (bit_sought homes.first slot)) m)
 bit_seen homes slot m whole near = record {
-  keeps = calm_run by_words FIRST homes.first (all_done (bit_sought homes.first slot)) m (omega arith) whole (bit_calm homes slot);
-  bit = ap (so SECOND) test ∙ so_got SECOND (has_bit (held at r) 0) r whole_r (omega arith) (omega arith) ∙ ap (λ w. has_bit w 0) (fetch_leaves by_words homes.first slot m refl whole near);
-  others = λ q x. ap (so q) test ∙ so_kept SECOND (has_bit (held at r) 0) q r whole_r x.few (λ same. x.other (sym same)) ∙ fetch_preds by_words homes.first slot q m whole x.few;
+  keeps = calm_run by_words FIRST homes.first (all_done (bit_sought homes.first slot)) m (omega arith) whole
+      (bit_calm homes slot);
+  bit = ap (so SECOND) test ∙ so_got SECOND (has_bit (held at r) 0) r whole_r (omega arith) (omega arith)
+      ∙ ap (λ w. has_bit w 0) (fetch_leaves by_words homes.first slot m refl whole near);
+  others = λ q x. ap (so q) test ∙ so_kept SECOND (has_bit (held at r) 0) q r whole_r x.few (λ same. x.other (sym same))
+      ∙ fetch_preds by_words homes.first slot q m whole x.few;
 }
   where
     at : ℕ
@@ -335,14 +412,19 @@ bit_seen homes slot m whole near = record {
     whole_r : IsWhole r
     whole_r = once_whole by_words (fetch_word homes.first slot) m whole
 
-    test : once by_words (compare_short cmp.Btest SECOND at 0) r ≡ with_written (write.Predicate SECOND (has_bit (held at r) 0)) r
+    test : once by_words (compare_short cmp.Btest SECOND at 0) r
+        ≡ with_written (write.Predicate SECOND (has_bit (held at r) 0)) r
     test = did_compare_short by_words cmp.Btest SECOND at 0 r whole_r
 
-operands_told : {homes : Homes} {slots : ℕ} {s : State} {m : Run} (f : ℕ → List Step) (op : SpBinary) (a b : PlainSp) → IsReady homes slots (between_two op a b) FIRST s m → joins homes.flags op a b ≡ true
-    → (flag_at homes.flags b ≡ None → flag (so TEST (run by_words (parts_trail f (truth_code homes b)) m)) ≡ sp_value s.frame s.world b)
+operands_told : {homes : Homes} {slots : ℕ} {s : State} {m : Run} (f : ℕ → List Step) (op : SpBinary) (a b : PlainSp)
+    → IsReady homes slots (between_two op a b) FIRST s m → joins homes.flags op a b ≡ true
+    → (flag_at homes.flags b ≡ None → flag (so TEST (run by_words (parts_trail f (truth_code homes b)) m))
+    ≡ sp_value s.frame s.world b)
     → Joined homes op a b s m (run by_words (parts_trail f (operands_stood homes a b (truth_code homes b))) m)
 operands_told {homes} {slots} {s} {m} f op a b r joins_them told =
-    subst (Joined homes op a b s m) (sym (run_joined by_words f (unless_stands (flag_at homes.flags b) (truth_code homes b)) (sought homes a) m)) (by (flag_at homes.flags a) refl)
+    subst (Joined homes op a b s m)
+    (sym (run_joined by_words f (unless_stands (flag_at homes.flags b) (truth_code homes b)) (sought homes a) m))
+    (by (flag_at homes.flags a) refl)
   where
     parts : (is_some (bits_of op) ≡ true) × ((is_some (flag_at homes.flags a) || seeks homes.flags op a b) ≡ true)
     parts = and_parts (is_some (bits_of op)) (is_some (flag_at homes.flags a) || seeks homes.flags op a b) joins_them
@@ -356,41 +438,60 @@ operands_told {homes} {slots} {s} {m} f op a b r joins_them told =
     second : Second homes b q s m n
     second = second_told f b (second_is_ready op a b r) told
 
-    word : (a : PlainSp) → is_frame_word a ≡ true → flag_at homes.flags a ≡ None → names_words slots a ≡ true → is_masking op ≡ true
-        → flag (pred_value (func_in (bits_of op)) (so SECOND (run by_words (all_done (bit_sought homes.first (slot_number a))) n)) (so q (run by_words (all_done (bit_sought homes.first (slot_number a))) n))) ≡ binary_value op (sp_value s.frame s.world a) (sp_value s.frame s.world b)
+    word : (a : PlainSp) → is_frame_word a ≡ true → flag_at homes.flags a ≡ None → names_words slots a ≡ true
+        → is_masking op ≡ true
+        → flag (pred_value (func_in (bits_of op))
+        (so SECOND (run by_words (all_done (bit_sought homes.first (slot_number a))) n))
+        (so q (run by_words (all_done (bit_sought homes.first (slot_number a))) n)))
+        ≡ binary_value op (sp_value s.frame s.world a) (sp_value s.frame s.world b)
     word (frame_word slot) is none named masking =
         let x = bit_seen homes slot n second.keeps.whole (omega (arith, r.most, ltb-true slot slots named)) in
         let shown = sym (shown_plain homes slot m none) ∙ r.shows.frame slot (ltb-true slot slots named) in
         ap₂ (λ x y. flag (pred_value (func_in (bits_of op)) x y)) x.bit (x.others q (truth_apart homes b))
-        ∙ masked_value op (word_of homes.first slot n) (so q n) masking ∙ ap₂ (binary_value op) (word_still homes.first slot m n second.keeps.high second.keeps.stack second.keeps.st ∙ shown) second.value
+        ∙ masked_value op (word_of homes.first slot n) (so q n) masking
+        ∙ ap₂ (binary_value op) (word_still homes.first slot m n second.keeps.high second.keeps.stack
+        second.keeps.st ∙ shown) second.value
     word _ is none named masking = absurd (true≢false (sym is))
 
-    by : (o : Option ℕ) → flag_at homes.flags a ≡ o → Joined homes op a b s m (run by_words (parts_trail f (unless_stands o (one (straight (bit_sought homes.first (slot_number a)))))) n)
+    by : (o : Option ℕ) → flag_at homes.flags a ≡ o
+        → Joined homes op a b s m (run by_words
+        (parts_trail f (unless_stands o (one (straight (bit_sought homes.first (slot_number a)))))) n)
     by (Some p) is =
         let first = stood a p r.shows r.whole (operands_named op a b r).0 is in
         record {
           keeps = second.keeps;
-          value = ap (λ o. flag (pred_value (func_in (bits_of op)) (so (sought_in o) n) (so q n))) is ∙ joined_value op a b p q parts.0 first second;
+          value = ap (λ o. flag (pred_value (func_in (bits_of op)) (so (sought_in o) n) (so q n))) is
+              ∙ joined_value op a b p q parts.0 first second;
         }
     by None is =
         let seeking = ap (λ o. is_some o || seeks homes.flags op a b) (sym is) ∙ parts.1 in
         let lone = run_lone by_words f (bit_sought homes.first (slot_number a)) n in
-        let sought_keeps = calm_run by_words FIRST homes.first (all_done (bit_sought homes.first (slot_number a))) n (omega arith) second.keeps.whole (bit_calm homes (slot_number a)) in
+        let sought_keeps = calm_run by_words FIRST homes.first (all_done (bit_sought homes.first (slot_number a))) n
+        (omega arith) second.keeps.whole (bit_calm homes (slot_number a)) in
         subst (Joined homes op a b s m) (sym lone) (record {
           keeps = keeps_both second.keeps sought_keeps;
-          value = ap (λ o. flag (pred_value (func_in (bits_of op)) (so (sought_in o) (run by_words (all_done (bit_sought homes.first (slot_number a))) n)) (so q (run by_words (all_done (bit_sought homes.first (slot_number a))) n)))) is
-              ∙ word a (seeks_word homes.flags op a b seeking) is (operands_named op a b r).0 (and_parts (is_masking op) _ seeking).0;
+          value = ap (λ o. flag (pred_value (func_in (bits_of op))
+              (so (sought_in o) (run by_words (all_done (bit_sought homes.first (slot_number a))) n))
+              (so q (run by_words (all_done (bit_sought homes.first (slot_number a))) n)))) is
+              ∙ word a (seeks_word homes.flags op a b seeking) is (operands_named op a b r).0 (and_parts
+              (is_masking op) _ seeking).0;
         })
 
 -- an expression that is no truth already is joined or tested
-joined_or_tested : (flags : Flags) (op : SpBinary) (a b : PlainSp) → is_truth flags (between_two op a b) ≡ true → flag_at flags (between_two op a b) ≡ None → (if joins flags op a b then is_truth flags b else is_test (between_two op a b)) ≡ true
-joined_or_tested flags op a b truth none = ap (λ o. is_some o || (if joins flags op a b then is_truth flags b else is_test (between_two op a b))) (sym none) ∙ truth
+joined_or_tested : (flags : Flags) (op : SpBinary) (a b : PlainSp) → is_truth flags (between_two op a b) ≡ true
+    → flag_at flags (between_two op a b) ≡ None → (if joins flags op a b then is_truth flags b else is_test
+    (between_two op a b)) ≡ true
+joined_or_tested flags op a b truth none =
+    ap (λ o. is_some o || (if joins flags op a b then is_truth flags b else is_test (between_two op a b))) (sym none)
+    ∙ truth
 
 -- an expression that is tested
-tested_told : {homes : Homes} {slots : ℕ} {s : State} {m : Run} (f : ℕ → List Step) (e : PlainSp) → IsReady homes slots e FIRST s m → is_test e ≡ true
+tested_told : {homes : Homes} {slots : ℕ} {s : State} {m : Run} (f : ℕ → List Step) (e : PlainSp)
+    → IsReady homes slots e FIRST s m → is_test e ≡ true
     → flag (so TEST (run by_words (parts_trail f (tested_code homes e)) m)) ≡ sp_value s.frame s.world e
 tested_told {homes} {slots} {s} {m} f e r test =
-    ap (λ t. flag (so TEST t)) (run_joined by_words f (operands_code homes e FIRST) (one (straight (test_of homes e))) m ∙ run_lone by_words f (test_of homes e) (worked homes f e FIRST m))
+    ap (λ t. flag (so TEST t)) (run_joined by_words f (operands_code homes e FIRST) (one (straight (test_of homes e))) m
+    ∙ run_lone by_words f (test_of homes e) (worked homes f e FIRST m))
     ∙ test_told f e r test
 
 -- by what a test says
@@ -398,7 +499,8 @@ copied : (b : Bool) → flag (pred_value comb.Por b b) ≡ flag b
 copied true = refl
 copied false = refl
 
-pairs_same : (op : SpBinary) → is_some (both_of op) ≡ true → (x y : Bool) → flag (pred_value (func_in (both_of op)) x y) ≡ binary_value op (flag x) (flag y)
+pairs_same : (op : SpBinary) → is_some (both_of op) ≡ true → (x y : Bool) → flag (pred_value (func_in (both_of op)) x y)
+    ≡ binary_value op (flag x) (flag y)
 pairs_same binary.Or is true y = refl
 pairs_same binary.Or is false true = refl
 pairs_same binary.Or is false false = refl
@@ -408,21 +510,26 @@ pairs_same binary.And is false y = refl
 pairs_same _ is x y = absurd (true≢false (sym is))
 
 -- of two conditions the truth of the first stands in the second predicate, while the second is tested
-paired_told : {homes : Homes} {slots : ℕ} {s : State} {m : Run} (f : ℕ → List Step) (op : SpBinary) (a b : PlainSp) → IsReady homes slots (between_two op a b) FIRST s m → pairs op a b ≡ true
+paired_told : {homes : Homes} {slots : ℕ} {s : State} {m : Run} (f : ℕ → List Step) (op : SpBinary) (a b : PlainSp)
+    → IsReady homes slots (between_two op a b) FIRST s m → pairs op a b ≡ true
     → flag (so TEST (run by_words (parts_trail f (truth_code homes a)) m)) ≡ sp_value s.frame s.world a
-    → flag (so TEST (run by_words (parts_trail f (paired_code homes op b (truth_code homes a))) m)) ≡ sp_value s.frame s.world (between_two op a b)
+    → flag (so TEST (run by_words (parts_trail f (paired_code homes op b (truth_code homes a))) m))
+    ≡ sp_value s.frame s.world (between_two op a b)
 paired_told {homes} {slots} {s} {m} f op a b r pair told =
-    ap (λ t. flag (so TEST t)) (run_joined by_words f first (joining_code homes op b) m ∙ run_joined by_words f (tested_code homes b) (one (straight (combine func TEST SECOND TEST ∷ []))) n
+    ap (λ t. flag (so TEST t)) (run_joined by_words f first (joining_code homes op b) m
+    ∙ run_joined by_words f (tested_code homes b) (one (straight (combine func TEST SECOND TEST ∷ []))) n
     ∙ did_combine by_words func TEST SECOND TEST t tested_keeps.whole)
     ∙ ap flag (so_got TEST (pred_value func (so SECOND t) (so TEST t)) t tested_keeps.whole (omega arith) (omega arith))
     ∙ pairs_same op parts.0 (so SECOND t) (so TEST t)
-    ∙ ap₂ (binary_value op) (ap flag (second_kept ∙ second_is) ∙ copied (so TEST before) ∙ told) (tested_told f b ready (condition_tests b conditions.0))
+    ∙ ap₂ (binary_value op) (ap flag (second_kept ∙ second_is) ∙ copied (so TEST before) ∙ told) (tested_told f b ready
+    (condition_tests b conditions.0))
   where
     parts : (is_some (both_of op) ≡ true) × ((is_condition a && (is_condition b && spares_second b)) ≡ true)
     parts = and_parts (is_some (both_of op)) (is_condition a && (is_condition b && spares_second b)) pair
 
     conditions : (is_condition b ≡ true) × (spares_second b ≡ true)
-    conditions = and_parts (is_condition b) (spares_second b) (and_parts (is_condition a) (is_condition b && spares_second b) parts.1).1
+    conditions = and_parts (is_condition b) (spares_second b)
+        (and_parts (is_condition a) (is_condition b && spares_second b) parts.1).1
 
     func : PredFunc
     func = func_in (both_of op)
@@ -446,18 +553,23 @@ paired_told {homes} {slots} {s} {m} f op a b r pair told =
     n = run by_words (parts_trail f first) m
 
     whole_before : IsWhole before
-    whole_before = (calm_run by_words FIRST homes.first (parts_trail f (truth_code homes a)) m (omega arith) r.whole (parts_trail_calm f FIRST homes.first (truth_code homes a) calm_a)).whole
+    whole_before = (calm_run by_words FIRST homes.first (parts_trail f (truth_code homes a)) m (omega arith) r.whole
+        (parts_trail_calm f FIRST homes.first (truth_code homes a) calm_a)).whole
 
     keeps : Keeps FIRST homes.first m n
     keeps = calm_run by_words FIRST homes.first (parts_trail f first) m (omega arith) r.whole
-        (parts_trail_calm f FIRST homes.first first (joined_calm FIRST homes.first (truth_code homes a) (one (straight keep)) calm_a (calm_tests homes keep refl)))
+        (parts_trail_calm f FIRST homes.first first (joined_calm FIRST homes.first (truth_code homes a)
+        (one (straight keep)) calm_a (calm_tests homes keep refl)))
 
     second_is : so SECOND n ≡ pred_value comb.Por (so TEST before) (so TEST before)
-    second_is = ap (so SECOND) (run_joined by_words f (truth_code homes a) (one (straight keep)) m ∙ did_combine by_words comb.Por SECOND TEST TEST before whole_before)
-        ∙ so_got SECOND (pred_value comb.Por (so TEST before) (so TEST before)) before whole_before (omega arith) (omega arith)
+    second_is = ap (so SECOND) (run_joined by_words f (truth_code homes a) (one (straight keep)) m
+        ∙ did_combine by_words comb.Por SECOND TEST TEST before whole_before)
+        ∙ so_got SECOND (pred_value comb.Por (so TEST before) (so TEST before)) before whole_before
+        (omega arith) (omega arith)
 
     ready : IsReady homes slots b FIRST s n
-    ready = second_ready op a b r FIRST n (omega arith) (second_fits op a b (fits_of r)).registers (second_fitting homes op a b fits).1 keeps
+    ready = second_ready op a b r FIRST n (omega arith) (second_fits op a b (fits_of r)).registers
+        (second_fitting homes op a b fits).1 keeps
 
     t : Run
     t = run by_words (parts_trail f (tested_code homes b)) n
@@ -468,41 +580,62 @@ paired_told {homes} {slots} {s} {m} f op a b r pair told =
     second_kept : so SECOND t ≡ so SECOND n
     second_kept = (test_spared homes b conditions.1).kept f n keeps.whole
 
-unjoined_told : {homes : Homes} {slots : ℕ} {s : State} {m : Run} (f : ℕ → List Step) (op : SpBinary) (a b : PlainSp) → IsReady homes slots (between_two op a b) FIRST s m → is_test (between_two op a b) ≡ true
-    → (is_condition a ≡ true → flag (so TEST (run by_words (parts_trail f (truth_code homes a)) m)) ≡ sp_value s.frame s.world a)
-    → flag (so TEST (run by_words (parts_trail f (unjoined_code homes op a b (truth_code homes a))) m)) ≡ sp_value s.frame s.world (between_two op a b)
+unjoined_told : {homes : Homes} {slots : ℕ} {s : State} {m : Run} (f : ℕ → List Step) (op : SpBinary) (a b : PlainSp)
+    → IsReady homes slots (between_two op a b) FIRST s m → is_test (between_two op a b) ≡ true
+    → (is_condition a ≡ true → flag (so TEST (run by_words (parts_trail f (truth_code homes a)) m))
+    ≡ sp_value s.frame s.world a)
+    → flag (so TEST (run by_words (parts_trail f (unjoined_code homes op a b (truth_code homes a))) m))
+    ≡ sp_value s.frame s.world (between_two op a b)
 unjoined_told {homes} {slots} {s} {m} f op a b r test told = by (pairs op a b) refl
   where
-    by : (c : Bool) → pairs op a b ≡ c → flag (so TEST (run by_words (parts_trail f (if c then paired_code homes op b (truth_code homes a) else tested_code homes (between_two op a b))) m)) ≡ sp_value s.frame s.world (between_two op a b)
-    by true is = paired_told f op a b r is (told (and_parts (is_condition a) (is_condition b && spares_second b) (and_parts (is_some (both_of op)) (is_condition a && (is_condition b && spares_second b)) is).1).0)
+    by : (c : Bool) → pairs op a b ≡ c
+        → flag (so TEST
+        (run by_words (parts_trail f (if c then paired_code homes op b (truth_code homes a) else tested_code homes
+        (between_two op a b))) m)) ≡ sp_value s.frame s.world (between_two op a b)
+    by true is = paired_told f op a b r is (told (and_parts (is_condition a) (is_condition b && spares_second b)
+        (and_parts (is_some (both_of op)) (is_condition a && (is_condition b && spares_second b)) is).1).0)
     by false is = tested_told f (between_two op a b) r test
 
-first_is_ready : {homes : Homes} {slots : ℕ} {s : State} {m : Run} (op : SpBinary) (a b : PlainSp) → IsReady homes slots (between_two op a b) FIRST s m → IsReady homes slots a FIRST s m
+first_is_ready : {homes : Homes} {slots : ℕ} {s : State} {m : Run} (op : SpBinary) (a b : PlainSp)
+    → IsReady homes slots (between_two op a b) FIRST s m → IsReady homes slots a FIRST s m
 first_is_ready {homes} {slots} {s} {m} op a b r =
-    first_ready op a b r FIRST m (omega arith) (first_fits op a b (fits_of r)).registers (first_fitting homes op a b (fits_of r, r.free)).1 (keeps_all FIRST homes.first m r.whole)
+    first_ready op a b r FIRST m (omega arith) (first_fits op a b (fits_of r)).registers
+    (first_fitting homes op a b (fits_of r, r.free)).1 (keeps_all FIRST homes.first m r.whole)
 
-condition_told : {homes : Homes} {slots : ℕ} {s : State} {m : Run} (f : ℕ → List Step) (e : PlainSp) → IsReady homes slots e FIRST s m → is_condition e ≡ true
+condition_told : {homes : Homes} {slots : ℕ} {s : State} {m : Run} (f : ℕ → List Step) (e : PlainSp)
+    → IsReady homes slots e FIRST s m → is_condition e ≡ true
     → flag (so TEST (run by_words (parts_trail f (truth_code homes e)) m)) ≡ sp_value s.frame s.world e
 condition_told f (before_one op of) r is = tested_told f (before_one op of) r is
 condition_told {homes} {slots} {s} {m} f (between_two op a b) r is =
-    ap (λ (c : Bool). flag (so TEST (run by_words (parts_trail f (if c then joined (operands_stood homes a b (truth_code homes b)) (one (straight (join homes.flags TEST op a b ∷ []))) else unjoined_code homes op a b (truth_code homes a))) m)))
+    ap (λ (c : Bool). flag
+    (so TEST (run by_words (parts_trail f (if c then joined (operands_stood homes a b (truth_code homes b))
+    (one (straight (join homes.flags TEST op a b ∷ []))) else unjoined_code homes op a b (truth_code homes a)))
+    m)))
     (no_joins homes.flags op a b is)
     ∙ unjoined_told f op a b r (condition_tests (between_two op a b) is) (condition_told f a (first_is_ready op a b r))
 condition_told f _ r is = absurd (true≢false (sym is))
 
-truth_told : {homes : Homes} {slots : ℕ} {s : State} {m : Run} (f : ℕ → List Step) (e : PlainSp) → IsReady homes slots e FIRST s m → is_truth homes.flags e ≡ true → flag_at homes.flags e ≡ None
+truth_told : {homes : Homes} {slots : ℕ} {s : State} {m : Run} (f : ℕ → List Step) (e : PlainSp)
+    → IsReady homes slots e FIRST s m → is_truth homes.flags e ≡ true → flag_at homes.flags e ≡ None
     → flag (so TEST (run by_words (parts_trail f (truth_code homes e)) m)) ≡ sp_value s.frame s.world e
-truth_told f (constant n) r truth none = tested_told f (constant n) r (ap (λ o. is_some o || is_test (constant n)) (sym none) ∙ truth)
-truth_told f (frame_word slot) r truth none = absurd (true≢false (sym (ap (λ o. is_some o || false) (sym none) ∙ truth)))
+truth_told f (constant n) r truth none =
+    tested_told f (constant n) r (ap (λ o. is_some o || is_test (constant n)) (sym none) ∙ truth)
+truth_told f (frame_word slot) r truth none =
+    absurd (true≢false (sym (ap (λ o. is_some o || false) (sym none) ∙ truth)))
 truth_told f (cell_word cell) r truth none = absurd (true≢false (sym truth))
 truth_told f (array_word array index) r truth none = absurd (true≢false (sym truth))
 truth_told f (before_one op of) r truth none = tested_told f (before_one op of) r truth
 truth_told {homes} {slots} {s} {m} f (between_two op a b) r truth none =
-    by (joins homes.flags op a b) refl (joined_or_tested homes.flags op a b truth none) (λ is. truth_told f b (second_is_ready op a b r) is)
+    by (joins homes.flags op a b) refl (joined_or_tested homes.flags op a b truth none)
+    (λ is. truth_told f b (second_is_ready op a b r) is)
   where
-    by : (c : Bool) → joins homes.flags op a b ≡ c → (if c then is_truth homes.flags b else is_test (between_two op a b)) ≡ true
-        → (is_truth homes.flags b ≡ true → flag_at homes.flags b ≡ None → flag (so TEST (run by_words (parts_trail f (truth_code homes b)) m)) ≡ sp_value s.frame s.world b)
-        → flag (so TEST (run by_words (parts_trail f (if c then joined (operands_stood homes a b (truth_code homes b)) (one (straight (join homes.flags TEST op a b ∷ []))) else unjoined_code homes op a b (truth_code homes a))) m))
+    by : (c : Bool) → joins homes.flags op a b ≡ c → (if c then is_truth homes.flags b else is_test
+        (between_two op a b)) ≡ true
+        → (is_truth homes.flags b ≡ true → flag_at homes.flags b ≡ None
+        → flag (so TEST (run by_words (parts_trail f (truth_code homes b)) m)) ≡ sp_value s.frame s.world b)
+        → flag (so TEST (run by_words (parts_trail f (if c then joined (operands_stood homes a b (truth_code homes b))
+        (one (straight (join homes.flags TEST op a b ∷ []))) else unjoined_code homes op a b (truth_code homes a)))
+        m))
         ≡ sp_value s.frame s.world (between_two op a b)
     by false other test inner = unjoined_told f op a b r test (condition_told f a (first_is_ready op a b r))
     by true is test inner =
@@ -511,8 +644,10 @@ truth_told {homes} {slots} {s} {m} f (between_two op a b) r truth none =
         let code = operands_stood homes a b (truth_code homes b) in
         let n = run by_words (parts_trail f code) m in
         let x = operands_told f op a b r is (inner test) in
-        ap (λ t. flag (so TEST t)) (run_joined by_words f code (one (straight (join homes.flags TEST op a b ∷ []))) m ∙ did_combine by_words (func_in (bits_of op)) TEST p q n x.keeps.whole)
-        ∙ ap flag (so_got TEST (pred_value (func_in (bits_of op)) (so p n) (so q n)) n x.keeps.whole (omega arith) (omega arith)) ∙ x.value
+        ap (λ t. flag (so TEST t)) (run_joined by_words f code (one (straight (join homes.flags TEST op a b ∷ []))) m
+        ∙ did_combine by_words (func_in (bits_of op)) TEST p q n x.keeps.whole)
+        ∙ ap flag (so_got TEST (pred_value (func_in (bits_of op)) (so p n) (so q n)) n x.keeps.whole (omega arith)
+        (omega arith)) ∙ x.value
 
 -- ---- a predicate is set
 
@@ -524,26 +659,37 @@ pub record SetsFlag (homes : Homes) (to : ℕ) (e : PlainSp) (s : State) (m t : 
   pub is : t ≡ with_written (write.Predicate to truth) before
 
 -- by what the code of a truth leaves in the predicate of a test
-copied_set : {homes : Homes} {s : State} {m : Run} (f : ℕ → List Step) (to : ℕ) (e : PlainSp) (code : PlainParts) → IsWhole m → parts_calm FIRST homes.first code ≡ true
+copied_set : {homes : Homes} {s : State} {m : Run} (f : ℕ → List Step) (to : ℕ) (e : PlainSp) (code : PlainParts)
+    → IsWhole m → parts_calm FIRST homes.first code ≡ true
     → flag (so TEST (run by_words (parts_trail f code) m)) ≡ sp_value s.frame s.world e
-    → SetsFlag homes to e s m (run by_words (parts_trail f (joined code (one (straight (combine comb.Por to TEST TEST ∷ []))))) m)
+    → SetsFlag homes to e s m (run by_words
+    (parts_trail f (joined code (one (straight (combine comb.Por to TEST TEST ∷ []))))) m)
 copied_set {homes} {s} {m} f to e code whole calm told =
     let n = run by_words (parts_trail f code) m in
-    let keeps = calm_run by_words FIRST homes.first (parts_trail f code) m (omega arith) whole (parts_trail_calm f FIRST homes.first code calm) in
+    let keeps = calm_run by_words FIRST homes.first (parts_trail f code) m (omega arith) whole
+    (parts_trail_calm f FIRST homes.first code calm) in
     record {
       before = n;
       truth = pred_value comb.Por (so TEST n) (so TEST n);
       keeps = keeps;
       value = copied (so TEST n) ∙ told;
-      is = run_joined by_words f code (one (straight (combine comb.Por to TEST TEST ∷ []))) m ∙ did_combine by_words comb.Por to TEST TEST n keeps.whole;
+      is = run_joined by_words f code (one (straight (combine comb.Por to TEST TEST ∷ []))) m
+          ∙ did_combine by_words comb.Por to TEST TEST n keeps.whole;
     }
 
-tested_set : {homes : Homes} {slots : ℕ} {s : State} {m : Run} (f : ℕ → List Step) (to : ℕ) (e : PlainSp) → IsReady homes slots e FIRST s m → is_test e ≡ true
-    → SetsFlag homes to e s m (run by_words (parts_trail f (joined (tested_code homes e) (one (straight (combine comb.Por to TEST TEST ∷ []))))) m)
-tested_set {homes} f to e r test = copied_set f to e (tested_code homes e) r.whole (tests_calm homes e (fits_of r, r.free)) (tested_told f e r test)
+tested_set : {homes : Homes} {slots : ℕ} {s : State} {m : Run} (f : ℕ → List Step) (to : ℕ) (e : PlainSp)
+    → IsReady homes slots e FIRST s m → is_test e ≡ true
+    → SetsFlag homes to e s m (run by_words
+    (parts_trail f (joined (tested_code homes e) (one (straight (combine comb.Por to TEST TEST ∷ []))))) m)
+tested_set {homes} f to e r test =
+    copied_set f to e (tested_code homes e) r.whole (tests_calm homes e (fits_of r, r.free)) (tested_told f e r test)
 
-joined_set : {homes : Homes} {slots : ℕ} {s : State} {m : Run} (f : ℕ → List Step) (to : ℕ) (op : SpBinary) (a b : PlainSp) → IsReady homes slots (between_two op a b) FIRST s m → joins homes.flags op a b ≡ true → is_truth homes.flags b ≡ true
-    → SetsFlag homes to (between_two op a b) s m (run by_words (parts_trail f (joined (operands_stood homes a b (truth_code homes b)) (one (straight (join homes.flags to op a b ∷ []))))) m)
+joined_set : {homes : Homes} {slots : ℕ} {s : State} {m : Run} (f : ℕ → List Step) (to : ℕ) (op : SpBinary)
+    (a b : PlainSp) → IsReady homes slots (between_two op a b) FIRST s m → joins homes.flags op a b ≡ true
+    → is_truth homes.flags b ≡ true
+    → SetsFlag homes to (between_two op a b) s m (run by_words
+    (parts_trail f (joined (operands_stood homes a b (truth_code homes b))
+    (one (straight (join homes.flags to op a b ∷ []))))) m)
 joined_set {homes} {slots} {s} {m} f to op a b r is truth =
     let p = sought_in (flag_at homes.flags a) in
     let q = told_in (flag_at homes.flags b) in
@@ -555,14 +701,17 @@ joined_set {homes} {slots} {s} {m} f to op a b r is truth =
       truth = pred_value (func_in (bits_of op)) (so p n) (so q n);
       keeps = x.keeps;
       value = x.value;
-      is = run_joined by_words f code (one (straight (join homes.flags to op a b ∷ []))) m ∙ did_combine by_words (func_in (bits_of op)) to p q n x.keeps.whole;
+      is = run_joined by_words f code (one (straight (join homes.flags to op a b ∷ []))) m
+          ∙ did_combine by_words (func_in (bits_of op)) to p q n x.keeps.whole;
     }
 
-pub flag_sets : {homes : Homes} {slots : ℕ} {s : State} {m : Run} (f : ℕ → List Step) (to : ℕ) (e : PlainSp) → IsReady homes slots e FIRST s m → is_truth homes.flags e ≡ true
+pub flag_sets : {homes : Homes} {slots : ℕ} {s : State} {m : Run} (f : ℕ → List Step) (to : ℕ) (e : PlainSp)
+    → IsReady homes slots e FIRST s m → is_truth homes.flags e ≡ true
     → SetsFlag homes to e s m (run by_words (parts_trail f (flag_code homes to e)) m)
 flag_sets {homes} {slots} {s} {m} f to e r truth = by (flag_at homes.flags e) refl
   where
-    other : (e : PlainSp) → IsReady homes slots e FIRST s m → is_truth homes.flags e ≡ true → flag_at homes.flags e ≡ None → SetsFlag homes to e s m (run by_words (parts_trail f (flag_by None homes to e)) m)
+    other : (e : PlainSp) → IsReady homes slots e FIRST s m → is_truth homes.flags e ≡ true → flag_at homes.flags e
+        ≡ None → SetsFlag homes to e s m (run by_words (parts_trail f (flag_by None homes to e)) m)
     other (constant n) r truth none =
         let zero : n ≡ 0 = eqb-true n 0 (ap (λ o. is_some o || is_test (constant n)) (sym none) ∙ truth) in
         record {
@@ -576,18 +725,24 @@ flag_sets {homes} {slots} {s} {m} f to e r truth = by (flag_at homes.flags e) re
     other (cell_word cell) r truth none = absurd (true≢false (sym truth))
     other (array_word array index) r truth none = absurd (true≢false (sym truth))
     other (before_one op of) r truth none = tested_set f to (before_one op of) r truth
-    other (between_two op a b) r truth none = either (joins homes.flags op a b) refl (joined_or_tested homes.flags op a b truth none)
+    other (between_two op a b) r truth none =
+        either (joins homes.flags op a b) refl (joined_or_tested homes.flags op a b truth none)
       where
-        either : (c : Bool) → joins homes.flags op a b ≡ c → (if c then is_truth homes.flags b else is_test (between_two op a b)) ≡ true
-            → SetsFlag homes to (between_two op a b) s m (run by_words (parts_trail f (joined (if c then operands_stood homes a b (truth_code homes b) else unjoined_code homes op a b (truth_code homes a))
+        either : (c : Bool) → joins homes.flags op a b ≡ c → (if c then is_truth homes.flags b else is_test
+            (between_two op a b)) ≡ true
+            → SetsFlag homes to (between_two op a b) s m (run by_words
+            (parts_trail f (joined (if c then operands_stood homes a b (truth_code homes b) else unjoined_code homes
+            op a b (truth_code homes a))
             (one (straight ((if c then join homes.flags to op a b else combine comb.Por to TEST TEST) ∷ []))))) m)
         either true is test = joined_set f to op a b r is test
         either false is test =
             copied_set f to (between_two op a b) (unjoined_code homes op a b (truth_code homes a)) r.whole
-            (unjoined_is (calm_parts homes) op a b (fits_of r, r.free) (truth_is (calm_parts homes) a (first_fitting homes op a b (fits_of r, r.free))))
+            (unjoined_is (calm_parts homes) op a b (fits_of r, r.free) (truth_is (calm_parts homes) a
+            (first_fitting homes op a b (fits_of r, r.free))))
             (unjoined_told f op a b r test (condition_told f a (first_is_ready op a b r)))
 
-    by : (o : Option ℕ) → flag_at homes.flags e ≡ o → SetsFlag homes to e s m (run by_words (parts_trail f (flag_by o homes to e)) m)
+    by : (o : Option ℕ) → flag_at homes.flags e ≡ o
+        → SetsFlag homes to e s m (run by_words (parts_trail f (flag_by o homes to e)) m)
     by None none = other e r truth none
     by (Some p) is = record {
       before = m;

@@ -60,7 +60,8 @@ record Holds (base offset : ℕ) (back : Back) (m : Run) : Type 0 where
 
 -- a special register goes to a word of the frame
 pub special_stored : (from : Sources) (s : Special) (slot : ℕ) (m : Run) → IsWhole m → slot < 128
-    → (run from (all_done (from_special SPARE s ∷ store_slot always slot SPARE ∷ [])) m).stack ≡ put (m.st + slot) (special_in m.st m.ss m.regs s) m.stack
+    → (run from (all_done (from_special SPARE s ∷ store_slot always slot SPARE ∷ [])) m).stack
+    ≡ put (m.st + slot) (special_in m.st m.ss m.regs s) m.stack
 special_stored from s slot m whole few =
     let v = special_in m.st m.ss m.regs s in
     let n = once from (from_special SPARE s) m in
@@ -75,7 +76,8 @@ set_keeps homes slot rs = set_op_is (λ op. keeps_place (under always op) ≡ tr
 
 arguments_keep : (homes n : ℕ) → list_all keeps_place (arguments_kept homes n) ≡ true
 arguments_keep homes zero = refl
-arguments_keep homes (suc n) = all_append keeps_place (arguments_kept homes n) _ (arguments_keep homes n) (rw (set_keeps homes n (FIRST + n)) refl)
+arguments_keep homes (suc n) = all_append keeps_place (arguments_kept homes n) _ (arguments_keep homes n)
+    (rw (set_keeps homes n (FIRST + n)) refl)
 
 mask_keeps : (homes : Homes) (f : PlainFunction) → list_all keeps_place (mask_kept homes f) ≡ true
 mask_keeps homes f = by (flag_of homes.flags f.mask)
@@ -84,26 +86,40 @@ mask_keeps homes f = by (flag_of homes.flags f.mask)
     by None = rw (set_keeps homes.first f.mask MASK) refl
     by (Some p) = refl
 
-state_run : (homes : Homes) (from : Sources) (f : PlainFunction) (bs : List Slots) (t : Run) → run from (all_done (mask_kept homes f ++ bs)) t ≡ run from (all_done bs) (run from (all_done (mask_kept homes f)) t)
-state_run homes from f bs t = ap (λ steps. run from steps t) (done_append (mask_kept homes f) bs) ∙ run_append from (all_done (mask_kept homes f)) (all_done bs) t
+state_run : (homes : Homes) (from : Sources) (f : PlainFunction) (bs : List Slots) (t : Run)
+    → run from (all_done (mask_kept homes f ++ bs)) t
+    ≡ run from (all_done bs) (run from (all_done (mask_kept homes f)) t)
+state_run homes from f bs t = ap (λ steps. run from steps t) (done_append (mask_kept homes f) bs)
+    ∙ run_append from (all_done (mask_kept homes f)) (all_done bs) t
 
 -- until it is kept, it stays set
 masked_back : (homes : Homes) (from : Sources) (f : PlainFunction) (m : Run)
-    → SameBack m (run from (all_done (mask_kept homes f)) (run from (all_done (arguments_kept homes.first f.parameters)) (run from (all_done (words_cleared homes (slots_of f))) (run from (all_done (frame_taken homes.first f)) m))))
+    → SameBack m (run from (all_done (mask_kept homes f)) (run from (all_done (arguments_kept homes.first f.parameters))
+    (run from (all_done (words_cleared homes (slots_of f))) (run from (all_done (frame_taken homes.first f)) m))))
 masked_back homes from f m =
     let t0 = run from (all_done (frame_taken homes.first f)) m in
     let tc = run from (all_done (words_cleared homes (slots_of f))) t0 in
-    back_then (back_then (back_then (done_back from (frame_taken homes.first f) m (taken_is (λ bs. list_all keeps_place bs ≡ true) (frame_words homes.first f) refl refl)) (done_back from (words_cleared homes (slots_of f)) t0 (cleared_all keeps_place homes (slots_of f) (λ slot p is. refl) (λ r. refl))))
-    (done_back from (arguments_kept homes.first f.parameters) tc (arguments_keep homes.first f.parameters))) (done_back from (mask_kept homes f) (run from (all_done (arguments_kept homes.first f.parameters)) tc) (mask_keeps homes f))
+    back_then (back_then (back_then (done_back from (frame_taken homes.first f) m
+    (taken_is (λ bs. list_all keeps_place bs ≡ true) (frame_words homes.first f) refl refl))
+    (done_back from (words_cleared homes (slots_of f)) t0 (cleared_all keeps_place homes (slots_of f)
+    (λ slot p is. refl) (λ r. refl))))
+    (done_back from (arguments_kept homes.first f.parameters) tc (arguments_keep homes.first f.parameters)))
+    (done_back from (mask_kept homes f) (run from (all_done (arguments_kept homes.first f.parameters)) tc)
+    (mask_keeps homes f))
 
-entered_home : (homes : Homes) (from : Sources) (fs : List PlainFunction) (number : ℕ) (f : PlainFunction) (m : Run) → stmts_call f.body ≡ true → FunctionParts fs number f → IsWhole m → Holds (base_slot homes.first f) (offset_slot homes.first f) (back_of m) (entered homes from f m)
+entered_home : (homes : Homes) (from : Sources) (fs : List PlainFunction) (number : ℕ) (f : PlainFunction) (m : Run)
+    → stmts_call f.body ≡ true → FunctionParts fs number f → IsWhole m
+    → Holds (base_slot homes.first f) (offset_slot homes.first f) (back_of m) (entered homes from f m)
 unfolding entered cleared taken
 entered_home homes from fs number f m has p whole =
     let t0 = run from (all_done (frame_taken homes.first f)) m in
     let tc = run from (all_done (words_cleared homes (slots_of f))) t0 in
     let t1 = run from (all_done (arguments_kept homes.first f.parameters)) tc in
     let n2 = run from (all_done (mask_kept homes f)) t1 in
-    let h2 = run_whole from (all_done (mask_kept homes f)) t1 (run_whole from (all_done (arguments_kept homes.first f.parameters)) tc (run_whole from (all_done (words_cleared homes (slots_of f))) t0 (run_whole from (all_done (frame_taken homes.first f)) m whole))) in
+    let h2 = run_whole from (all_done (mask_kept homes f)) t1
+    (run_whole from (all_done (arguments_kept homes.first f.parameters)) tc
+    (run_whole from (all_done (words_cleared homes (slots_of f))) t0
+    (run_whole from (all_done (frame_taken homes.first f)) m whole))) in
     let b2 = masked_back homes from f m in
     let base = from_special SPARE special.Srb ∷ store_slot always (base_slot homes.first f) SPARE ∷ [] in
     let n4 = run from (all_done base) n2 in
@@ -115,19 +131,31 @@ entered_home homes from fs number f m has p whole =
     let b4 = back_then b2 (done_back from base n2 refl) in
     let s4 = special_stored from special.Srb (base_slot homes.first f) n2 h2 (omega (arith, p.frame, p.room)) in
     let s6 = special_stored from special.Sro (offset_slot homes.first f) n4 h4 (omega (arith, p.frame, p.room)) in
-    subst (λ b. Holds (base_slot homes.first f) (offset_slot homes.first f) (back_of m) (run from (all_done (mask_kept homes f ++ (if b then place_stored homes.first f else []))) t1)) (sym has) (subst (Holds (base_slot homes.first f) (offset_slot homes.first f) (back_of m)) (sym (state_run homes from f (place_stored homes.first f) t1)) (record {
-      base_is = ap (λ st. n6.stack (st + base_slot homes.first f)) p6 ∙ ap (λ s. s (n4.st + base_slot homes.first f)) s6 ∙ put_other (n4.st + offset_slot homes.first f) (n4.st + base_slot homes.first f) n4.regs.sro n4.stack (λ same. omega (arith, same, p.room))
-          ∙ ap (λ st. n4.stack (st + base_slot homes.first f)) p4 ∙ ap (λ s. s (n2.st + base_slot homes.first f)) s4 ∙ put_same (n2.st + base_slot homes.first f) n2.regs.srb n2.stack ∙ b2.base;
-      offset_is = ap (λ st. n6.stack (st + offset_slot homes.first f)) p6 ∙ ap (λ s. s (n4.st + offset_slot homes.first f)) s6 ∙ put_same (n4.st + offset_slot homes.first f) n4.regs.sro n4.stack ∙ b4.offset;
+    subst (λ b. Holds (base_slot homes.first f) (offset_slot homes.first f) (back_of m)
+    (run from (all_done (mask_kept homes f ++ (if b then place_stored homes.first f else []))) t1)) (sym has)
+    (subst (Holds (base_slot homes.first f) (offset_slot homes.first f) (back_of m))
+    (sym (state_run homes from f (place_stored homes.first f) t1)) (record {
+      base_is = ap (λ st. n6.stack (st + base_slot homes.first f)) p6 ∙ ap (λ s. s (n4.st + base_slot homes.first f)) s6
+          ∙ put_other (n4.st + offset_slot homes.first f) (n4.st + base_slot homes.first f) n4.regs.sro n4.stack
+          (λ same. omega (arith, same, p.room))
+          ∙ ap (λ st. n4.stack (st + base_slot homes.first f)) p4 ∙ ap (λ s. s (n2.st + base_slot homes.first f)) s4
+          ∙ put_same (n2.st + base_slot homes.first f) n2.regs.srb n2.stack ∙ b2.base;
+      offset_is = ap (λ st. n6.stack (st + offset_slot homes.first f)) p6
+          ∙ ap (λ s. s (n4.st + offset_slot homes.first f)) s6
+          ∙ put_same (n4.st + offset_slot homes.first f) n4.regs.sro n4.stack ∙ b4.offset;
     }))
   where
-    kept_word : (from : Sources) (slot : ℕ) (s : Special) (n : Run) → IsWhole n → slot < 128 → (run from (all_done (from_special SPARE s ∷ store_slot always slot SPARE ∷ [])) n).st ≡ n.st
+    kept_word : (from : Sources) (slot : ℕ) (s : Special) (n : Run) → IsWhole n → slot < 128
+        → (run from (all_done (from_special SPARE s ∷ store_slot always slot SPARE ∷ [])) n).st ≡ n.st
     kept_word from slot s n whole few =
         let t = once from (from_special SPARE s) n in
         let h = once_whole from (from_special SPARE s) n whole in
-        ap (λ t. t.st) (did_store_slot from always slot SPARE t h h.fits.always few) ∙ ap (λ t. t.st) (did_write from always (FromSpecial SPARE s) n whole whole.fits.always refl refl)
+        ap (λ t. t.st) (did_store_slot from always slot SPARE t h h.fits.always few)
+        ∙ ap (λ t. t.st) (did_write from always (FromSpecial SPARE s) n whole whole.fits.always refl refl)
 
-worked_home : (homes : Homes) (from : Sources) (code : ℕ → List Step) (tops : List ℕ) (fs : List PlainFunction) (number low : ℕ) (f : PlainFunction) (m : Run) → stmts_call f.body ≡ true → InWindow homes tops fs number f → AllPass from code tops number low → IsWhole m → low + 128 ≤ m.st
+worked_home : (homes : Homes) (from : Sources) (code : ℕ → List Step) (tops : List ℕ) (fs : List PlainFunction)
+    (number low : ℕ) (f : PlainFunction) (m : Run) → stmts_call f.body ≡ true → InWindow homes tops fs number f
+    → AllPass from code tops number low → IsWhole m → low + 128 ≤ m.st
     → Holds (base_slot homes.first f) (offset_slot homes.first f) (back_of m) (worked homes from code f m)
 worked_home homes from code tops fs number low f m has window others whole enough =
     let p = window.parts in
@@ -136,8 +164,10 @@ worked_home homes from code tops fs number low f m has window others whole enoug
     let h = entered_home homes from fs number f m has p whole in
     let k = (works_in_frame homes from code tops fs number low f m window others whole enough).keeps in
     record {
-      base_is = ap (λ st. w.stack (st + base_slot homes.first f)) k.st ∙ k.stack (e.st + base_slot homes.first f) (omega (arith, p.room, p.mask)) ∙ h.base_is;
-      offset_is = ap (λ st. w.stack (st + offset_slot homes.first f)) k.st ∙ k.stack (e.st + offset_slot homes.first f) (omega (arith, p.room, p.mask)) ∙ h.offset_is;
+      base_is = ap (λ st. w.stack (st + base_slot homes.first f)) k.st ∙ k.stack (e.st + base_slot homes.first f) (omega
+          (arith, p.room, p.mask)) ∙ h.base_is;
+      offset_is = ap (λ st. w.stack (st + offset_slot homes.first f)) k.st ∙ k.stack (e.st + offset_slot homes.first f)
+          (omega (arith, p.room, p.mask)) ∙ h.offset_is;
     }
 
 -- ---- and comes back from there
@@ -151,44 +181,67 @@ record Home (back : Back) (t : Run) : Type 0 where
 given_keep : (homes : ℕ) (f : PlainFunction) → list_all keeps_place (result_given homes f) ≡ true
 given_keep homes f =
     let freed = freed_is (λ bs. list_all keeps_place bs ≡ true) (frame_words homes f) refl refl in
-    read_is (λ b. list_all keeps_place (b ∷ copy MASK OVERRUN ∷ frame_freed homes f) ≡ true) homes RESULT f.result freed (λ out. freed)
+    read_is (λ b. list_all keeps_place (b ∷ copy MASK OVERRUN ∷ frame_freed homes f) ≡ true) homes RESULT f.result
+    freed (λ out. freed)
 
-brings_home : (homes : Homes) (from : Sources) (f : PlainFunction) (back : Back) (m : Run) → stmts_call f.body ≡ true → from.stack ≡ true → base_slot homes.first f < 128 → offset_slot homes.first f < 128 → IsWhole m → Holds (base_slot homes.first f) (offset_slot homes.first f) back m → Home back (run from (all_done (function_end homes.first f)) m)
+brings_home : (homes : Homes) (from : Sources) (f : PlainFunction) (back : Back) (m : Run) → stmts_call f.body ≡ true
+    → from.stack ≡ true → base_slot homes.first f < 128 → offset_slot homes.first f < 128 → IsWhole m
+    → Holds (base_slot homes.first f) (offset_slot homes.first f) back m
+    → Home back (run from (all_done (function_end homes.first f)) m)
 brings_home homes from f back m has told few_base few_offset whole h =
     let e1 = once from (load_slot SPARE (base_slot homes.first f)) m in
     let h1 = once_whole from (load_slot SPARE (base_slot homes.first f)) m whole in
     let e2 = once from (to_special writable.Srb SPARE) e1 in
     let h2 = once_whole from (to_special writable.Srb SPARE) e1 h1 in
     let did2 = did_write from always (ToSpecial writable.Srb SPARE) e1 h1 h1.fits.always refl refl in
-    let k = (passes_done from OVERRUN 0 (load_slot SPARE (base_slot homes.first f) ∷ to_special writable.Srb SPARE ∷ []) m (omega arith) whole refl).keeps in
+    let k = (passes_done from OVERRUN 0 (load_slot SPARE (base_slot homes.first f) ∷ to_special writable.Srb SPARE ∷ [])
+    m (omega arith) whole refl).keeps in
     let e3 = once from (load_slot SPARE (offset_slot homes.first f)) e2 in
     let h3 = once_whole from (load_slot SPARE (offset_slot homes.first f)) e2 h2 in
     let e4 = once from (to_special writable.Sro SPARE) e3 in
     let did4 = did_write from always (ToSpecial writable.Sro SPARE) e3 h3 h3.fits.always refl refl in
     let b3 = done_back from (load_slot SPARE (offset_slot homes.first f) ∷ []) e2 refl in
     let b7 = done_back from (result_given homes.first f) e4 (given_keep homes.first f) in
-    subst (λ b. Home back (run from (all_done ((if b then place_loaded homes.first f else []) ++ result_given homes.first f)) m)) (sym has) (record {
+    subst (λ b. Home back
+    (run from (all_done ((if b then place_loaded homes.first f else []) ++ result_given homes.first f)) m))
+    (sym has) (record {
       whole = run_whole from (all_done (place_loaded homes.first f ++ result_given homes.first f)) m whole;
-      base = b7.base ∙ ap (λ t. t.regs.srb) did4 ∙ b3.base ∙ ap (λ t. t.regs.srb) did2 ∙ slot_leaves from SPARE (base_slot homes.first f) m told whole (omega arith) (omega arith) few_base ∙ h.base_is;
-      offset = b7.offset ∙ ap (λ t. t.regs.sro) did4 ∙ slot_leaves from SPARE (offset_slot homes.first f) e2 told h2 (omega arith) (omega arith) few_offset
-          ∙ ap (λ st. e2.stack (st + offset_slot homes.first f)) k.st ∙ k.stack (m.st + offset_slot homes.first f) (omega arith) ∙ h.offset_is;
+      base = b7.base ∙ ap (λ t. t.regs.srb) did4 ∙ b3.base ∙ ap (λ t. t.regs.srb) did2
+          ∙ slot_leaves from SPARE (base_slot homes.first f) m told whole (omega arith) (omega arith) few_base
+          ∙ h.base_is;
+      offset = b7.offset ∙ ap (λ t. t.regs.sro) did4 ∙ slot_leaves from SPARE (offset_slot homes.first f) e2 told h2
+          (omega arith) (omega arith) few_offset
+          ∙ ap (λ st. e2.stack (st + offset_slot homes.first f)) k.st ∙ k.stack (m.st + offset_slot homes.first f)
+          (omega arith) ∙ h.offset_is;
     })
 
 -- ---- or it stays set, where no function is called
 
-worked_back : (homes : Homes) (from : Sources) (code : ℕ → List Step) (fs : List PlainFunction) (number : ℕ) (f : PlainFunction) (m : Run) → stmts_call f.body ≡ false → FunctionParts fs number f → SameBack m (worked homes from code f m)
+worked_back : (homes : Homes) (from : Sources) (code : ℕ → List Step) (fs : List PlainFunction) (number : ℕ)
+    (f : PlainFunction) (m : Run) → stmts_call f.body ≡ false → FunctionParts fs number f
+    → SameBack m (worked homes from code f m)
 unfolding worked entered cleared taken
 worked_back homes from code fs number f m none p =
     let body = body_code homes f in
-    let t1 = run from (all_done (arguments_kept homes.first f.parameters)) (run from (all_done (words_cleared homes (slots_of f))) (run from (all_done (frame_taken homes.first f)) m)) in
-    let entered_back = subst (λ b. SameBack m (run from (all_done (mask_kept homes f ++ (if b then place_stored homes.first f else []))) t1)) (sym none) (subst (SameBack m) (sym (state_run homes from f [] t1)) (masked_back homes from f m)) in
+    let t1 = run from (all_done (arguments_kept homes.first f.parameters))
+    (run from (all_done (words_cleared homes (slots_of f))) (run from (all_done (frame_taken homes.first f)) m)) in
+    let entered_back =
+    subst (λ b. SameBack m
+    (run from (all_done (mask_kept homes f ++ (if b then place_stored homes.first f else []))) t1)) (sym none)
+    (subst (SameBack m) (sym (state_run homes from f [] t1)) (masked_back homes from f m)) in
     let begun = begun_body homes.flags f in
-    back_then entered_back (parts_back from code body (formed.stmts_formed homes fs 0 (slots_of f) (frame_words homes.first f) (first_counter f) begun (stmts_uncalled fs number (slots_of f) begun (begun_uncalled homes.flags f none) (begun_formed homes.flags fs number (slots_of f) f p.body)))
-    (each_so (is_firm 8) keeps_place (place_firm 8) body (body_firm homes f)) (run from (all_done (state_kept homes f)) t1))
+    back_then entered_back (parts_back from code body (formed.stmts_formed homes fs 0 (slots_of f)
+    (frame_words homes.first f) (first_counter f) begun (stmts_uncalled fs number (slots_of f) begun
+    (begun_uncalled homes.flags f none) (begun_formed homes.flags fs number (slots_of f) f p.body)))
+    (each_so (is_firm 8) keeps_place (place_firm 8) body (body_firm homes f))
+    (run from (all_done (state_kept homes f)) t1))
 
-stays_home : (homes : Homes) (from : Sources) (f : PlainFunction) (m w : Run) → stmts_call f.body ≡ false → IsWhole w → SameBack m w → Home (back_of m) (run from (all_done (function_end homes.first f)) w)
+stays_home : (homes : Homes) (from : Sources) (f : PlainFunction) (m w : Run) → stmts_call f.body ≡ false → IsWhole w
+    → SameBack m w → Home (back_of m) (run from (all_done (function_end homes.first f)) w)
 stays_home homes from f m w none whole x =
-    let y = back_then x (done_back from (function_end homes.first f) w (subst (λ b. list_all keeps_place ((if b then place_loaded homes.first f else []) ++ result_given homes.first f) ≡ true) (sym none) (given_keep homes.first f))) in
+    let y = back_then x (done_back from (function_end homes.first f) w
+    (subst (λ b. list_all keeps_place ((if b then place_loaded homes.first f else []) ++ result_given homes.first f)
+    ≡ true) (sym none) (given_keep homes.first f))) in
     record { whole = run_whole from (all_done (function_end homes.first f)) w whole; base = y.base; offset = y.offset }
 
 asks_home : (from : Sources) (back : Back) (t : Run) → Home back t → Returns (run from) return_tail back t
@@ -198,21 +251,31 @@ asks_home from back t h =
 
 -- ---- functions
 
-begin_entered : (homes : Homes) (from : Sources) (f : PlainFunction) (m : Run) → run from (all_done (function_begin homes f)) m ≡ entered homes from f m
+begin_entered : (homes : Homes) (from : Sources) (f : PlainFunction) (m : Run)
+    → run from (all_done (function_begin homes f)) m ≡ entered homes from f m
 unfolding entered cleared taken
 begin_entered homes from f m = begin_run homes from f m
 
-comes_home : (homes : Homes) (from : Sources) (code : ℕ → List Step) (tops : List ℕ) (fs : List PlainFunction) (number low : ℕ) (f : PlainFunction) (m : Run) → from.stack ≡ true → InWindow homes tops fs number f → AllPass from code tops number low → IsWhole m → low + 128 ≤ m.st
-    → (b : Bool) → stmts_call f.body ≡ b → Home (back_of m) (run from (all_done (function_end homes.first f)) (worked homes from code f m))
+comes_home : (homes : Homes) (from : Sources) (code : ℕ → List Step) (tops : List ℕ) (fs : List PlainFunction)
+    (number low : ℕ) (f : PlainFunction) (m : Run) → from.stack ≡ true → InWindow homes tops fs number f
+    → AllPass from code tops number low → IsWhole m → low + 128 ≤ m.st
+    → (b : Bool) → stmts_call f.body ≡ b → Home (back_of m) (run from (all_done (function_end homes.first f))
+    (worked homes from code f m))
 comes_home homes from code tops fs number low f m told window others whole enough true has =
     let p = window.parts in
-    brings_home homes from f (back_of m) (worked homes from code f m) has told (omega (arith, p.frame, p.room)) (omega (arith, p.frame, p.room)) (works_in_frame homes from code tops fs number low f m window others whole enough).whole
+    brings_home homes from f (back_of m) (worked homes from code f m) has told (omega (arith, p.frame, p.room))
+    (omega (arith, p.frame, p.room)) (works_in_frame homes from code tops fs number low f m window others
+    whole enough).whole
     (worked_home homes from code tops fs number low f m has window others whole enough)
 comes_home homes from code tops fs number low f m told window others whole enough false none =
-    stays_home homes from f m (worked homes from code f m) none (works_in_frame homes from code tops fs number low f m window others whole enough).whole (worked_back homes from code fs number f m none window.parts)
+    stays_home homes from f m (worked homes from code f m) none (works_in_frame homes from code tops fs number low f m
+    window others whole enough).whole (worked_back homes from code fs number f m none window.parts)
 
-function_iterations : (homes : Homes) (from : Sources) (code : ℕ → List Step) (Called : ℕ → Run → Type 0) (tops : List ℕ) (fs : List PlainFunction) (number low : ℕ) (f : PlainFunction) → from.stack ≡ true → InWindow homes tops fs number f → HasStmtsCounts f.body → Callees from code Called tops number low
-    → (m : Run) → IsWhole m → low + 128 ≤ m.st → PartsIteration (run from) code Called (back_of m) (function_code homes f) m
+function_iterations : (homes : Homes) (from : Sources) (code : ℕ → List Step) (Called : ℕ → Run → Type 0)
+    (tops : List ℕ) (fs : List PlainFunction) (number low : ℕ) (f : PlainFunction) → from.stack ≡ true
+    → InWindow homes tops fs number f → HasStmtsCounts f.body → Callees from code Called tops number low
+    → (m : Run) → IsWhole m → low + 128 ≤ m.st → PartsIteration (run from) code Called (back_of m)
+    (function_code homes f) m
 unfolding worked
 function_iterations homes from code Called tops fs number low f told window counts callees m whole enough =
     let p = window.parts in
@@ -222,43 +285,64 @@ function_iterations homes from code Called tops fs number low f told window coun
     let w = worked homes from code f m in
     let levels = begun_levels homes.flags f in
     let fewer = begun_least homes.flags tops f in
-    let home = comes_home homes from code tops fs number low f m told window callees.passing whole enough (stmts_call f.body) refl in (
+    let home = comes_home homes from code tops fs number low f m told window callees.passing whole enough
+    (stmts_call f.body) refl in (
       tt,
-      subst (PartsIteration (run from) code Called (back_of m) (joined body (function_rest homes.first f))) (sym (begin_entered homes from f m))
+      subst (PartsIteration (run from) code Called (back_of m) (joined body (function_rest homes.first f)))
+          (sym (begin_entered homes from f m))
           (iterations_joined from code Called (back_of m) body (function_rest homes.first f) (entered homes from f m)
-          (stmts_iteration homes from code Called (back_of m) tops fs number (slots_of f) (frame_words homes.first f) (first_counter f) low told callees window.homed (omega (arith, p.frame, p.room)) (begun_body homes.flags f) (omega (arith, p.room, p.mask, levels))
-          (begun_formed homes.flags fs number (slots_of f) f p.body) (begun_counts homes.flags f counts) (omega (arith, fewer, window.least)) (entered homes from f m) e.whole (omega (arith, e.st, few, enough, p.frame)))
+          (stmts_iteration homes from code Called (back_of m) tops fs number (slots_of f) (frame_words homes.first f)
+          (first_counter f) low told callees window.homed (omega (arith, p.frame, p.room))
+          (begun_body homes.flags f) (omega (arith, p.room, p.mask, levels))
+          (begun_formed homes.flags fs number (slots_of f) f p.body) (begun_counts homes.flags f counts)
+          (omega (arith, fewer, window.least)) (entered homes from f m) e.whole
+          (omega (arith, e.st, few, enough, p.frame)))
           (tt, (asks_home from (back_of m) (run from (all_done (function_end homes.first f)) w) home, tt))),
     )
 
 -- ---- all of them, in order
 
-functions_iteration : (from : Sources) (fs : List PlainFunction) → from.stack ≡ true → HasCounts fs → (n : ℕ) → n ≤ length fs → functions_formed fs n ≡ true → (k : ℕ) → k < n → (m : Run) → IsWhole m → n * 128 ≤ m.st
+functions_iteration : (from : Sources) (fs : List PlainFunction) → from.stack ≡ true → HasCounts fs → (n : ℕ)
+    → n ≤ length fs → functions_formed fs n ≡ true → (k : ℕ) → k < n → (m : Run) → IsWhole m → n * 128 ≤ m.st
     → FunctionsIteration (run from) (codes fs) n k m
 functions_iteration from fs told counts zero within formed k less m whole enough = tt
 functions_iteration from fs told counts (suc n) within formed k less m whole enough =
     let parts = and_parts (functions_formed fs n) (function_formed fs n (slice_index_or fs n no_function)) formed in
-    by parts.0 parts.1 (record { passing = all_pass from fs n (omega (arith, within)) parts.0; iterating = functions_iteration from fs told counts n (omega (arith, within)) parts.0 }) (k == n) refl
+    by parts.0 parts.1 (record {
+      passing = all_pass from fs n (omega (arith, within)) parts.0;
+      iterating = functions_iteration from fs told counts n (omega (arith, within)) parts.0;
+    }) (k == n) refl
   where
-    by : functions_formed fs n ≡ true → function_formed fs n (slice_index_or fs n no_function) ≡ true → Callees from (code_of fs n) (FunctionsIteration (run from) (codes fs) n) (tops fs n) n (n * 128) → (b : Bool) → (k == n) ≡ b
-        → MatchBool b (PartsIteration (run from) (code_of fs n) (FunctionsIteration (run from) (codes fs) n) (back_of m) (slice_index_or (codes fs) n no_part) m) (FunctionsIteration (run from) (codes fs) n k m)
+    by : functions_formed fs n ≡ true → function_formed fs n (slice_index_or fs n no_function) ≡ true
+        → Callees from (code_of fs n) (FunctionsIteration (run from) (codes fs) n) (tops fs n) n (n * 128)
+        → (b : Bool) → (k == n) ≡ b
+        → MatchBool b (PartsIteration (run from) (code_of fs n) (FunctionsIteration (run from) (codes fs) n) (back_of m)
+        (slice_index_or (codes fs) n no_part) m) (FunctionsIteration (run from) (codes fs) n k m)
     by before own callees true is =
-        subst (λ c. PartsIteration (run from) (code_of fs n) (FunctionsIteration (run from) (codes fs) n) (back_of m) c m) (sym (codes_at fs n (omega (arith, within))))
-        (function_iterations (places_of fs n) from (code_of fs n) (FunctionsIteration (run from) (codes fs) n) (tops fs n) fs n (n * 128) (slice_index_or fs n no_function) told (own_window fs n before own) (counts n) callees m whole (omega (arith, enough)))
+        subst (λ c. PartsIteration (run from) (code_of fs n) (FunctionsIteration (run from) (codes fs) n)
+        (back_of m) c m) (sym (codes_at fs n (omega (arith, within))))
+        (function_iterations (places_of fs n) from (code_of fs n) (FunctionsIteration (run from) (codes fs) n)
+        (tops fs n) fs n (n * 128) (slice_index_or fs n no_function) told (own_window fs n before own)
+        (counts n) callees m whole (omega (arith, enough)))
     by before own callees false other = callees.iterating k (earlier (cases_lt k n)) m whole (omega (arith, enough))
       where
         earlier : (k < n) ⊎ (n ≤ k) → k < n
         earlier (inl lt) = lt
         earlier (inr ge) = absurd (eqb-false k n other (omega (arith, ge, less)))
 
-pub task_iterations : (u : PlainUnit) (from : Sources) (memory : Memory) (loads : List ℕ) (backs : List Back) → from.stack ≡ true → is_formed u ≡ true → HasCounts u.functions → ShapeIterations (run from) (emitted u) (at_begin memory loads backs)
+pub task_iterations : (u : PlainUnit) (from : Sources) (memory : Memory) (loads : List ℕ) (backs : List Back)
+    → from.stack ≡ true → is_formed u ≡ true → HasCounts u.functions
+    → ShapeIterations (run from) (emitted u) (at_begin memory loads backs)
 task_iterations u from memory loads backs told formed counts =
     let a = and_parts (nat_le (length u.functions) 512) _ formed in
     let b = and_parts (functions_formed u.functions (length u.functions)) _ a.1 in
     let c = and_parts (entry_formed u) _ b.1 in
-    let d = and_parts (nat_lt u.entry (length u.functions)) ((slice_index_or u.functions u.entry no_function).parameters == 0) c.0 in
+    let d = and_parts (nat_lt u.entry (length u.functions)) ((slice_index_or u.functions u.entry no_function).parameters
+    == 0) c.0 in
     let begin = at_begin memory loads backs in
     let few = leb-true (length u.functions) 512 a.0 in
     subst (λ n. FunctionsIteration (run from) (codes u.functions) n u.entry begin) (sym (codes_length u.functions))
-    (functions_iteration from u.functions told counts (length u.functions) (omega arith) b.0 u.entry (ltb-true u.entry (length u.functions) d.0) begin
-    (record { fits = record { count = refl; pred_count = refl; zero = refl; always = refl }; pending = refl }) (omega (arith, few)))
+    (functions_iteration from u.functions told counts (length u.functions) (omega arith) b.0 u.entry
+    (ltb-true u.entry (length u.functions) d.0) begin
+    (record { fits = record { count = refl; pred_count = refl; zero = refl; always = refl }; pending = refl })
+    (omega (arith, few)))

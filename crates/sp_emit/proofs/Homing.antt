@@ -67,17 +67,19 @@ sets_none _ = true
 abbrev pub keeps_place : Slots → Bool
 keeps_place b = sets_none b.first.op && is_none b.second
 
-written_none : (st ss : ℕ) (regs : Registers) (on : Bool) (op : Op) → sets_none op ≡ true → is_special (if on then write_of st ss regs op else write.Nothing) ≡ false
+written_none : (st ss : ℕ) (regs : Registers) (on : Bool) (op : Op) → sets_none op ≡ true
+    → is_special (if on then write_of st ss regs op else write.Nothing) ≡ false
 written_none st ss regs false op none = refl
 written_none st ss regs true (ToSpecial special ra) none = absurd (true≢false (sym none))
 written_none st ss regs true _ none = refl
 
-second_none : (st ss : ℕ) (regs : Registers) (second : Option Instr) → is_none second ≡ true → is_special (second_write st ss regs second) ≡ false
+second_none : (st ss : ℕ) (regs : Registers) (second : Option Instr) → is_none second ≡ true
+    → is_special (second_write st ss regs second) ≡ false
 second_none st ss regs None none = refl
 second_none st ss regs (Some i) none = absurd (true≢false (sym none))
 
-behind_back : (b : Slots) (m : Run) → keeps_place b ≡ true → SameBack m (behind b m)
-behind_back b m keeps =
+after_back : (b : Slots) (m : Run) → keeps_place b ≡ true → SameBack m (behind b m)
+after_back b m keeps =
     let both = and_parts (sets_none b.first.op) (is_none b.second) keeps in
     let p = came m.regs.pending in
     let w = slot_write m.st m.ss m.regs b.first in
@@ -85,17 +87,23 @@ behind_back b m keeps =
     let first = written_none m.st m.ss m.regs (holds m.regs b.first.guard) b.first.op both.0 in
     let second = second_none m.st m.ss m.regs b.second both.1 in
     record {
-      base = base_same v (base_by w (base_by p m.regs.srb)) second ∙ base_same w (base_by p m.regs.srb) first ∙ base_same p m.regs.srb (came_none m.regs.pending);
-      offset = offset_same v (offset_by w (offset_by p m.regs.sro)) second ∙ offset_same w (offset_by p m.regs.sro) first ∙ offset_same p m.regs.sro (came_none m.regs.pending);
+      base = base_same v (base_by w (base_by p m.regs.srb)) second ∙ base_same w (base_by p m.regs.srb) first
+          ∙ base_same p m.regs.srb (came_none m.regs.pending);
+      offset = offset_same v (offset_by w (offset_by p m.regs.sro)) second
+          ∙ offset_same w (offset_by p m.regs.sro) first ∙ offset_same p m.regs.sro (came_none m.regs.pending);
     }
 
 once_back : (from : Sources) (b : Slots) (m : Run) → keeps_place b ≡ true → SameBack m (once from b m)
 once_back from b m keeps =
     let e = effected from (effect_of b m.regs) (behind b m) in
-    let x = back_then (behind_back b m keeps) (back_effected from (effect_of b m.regs) (behind b m)) in
-    record { base = base_same (came e.regs.pending) e.regs.srb (came_none e.regs.pending) ∙ x.base; offset = offset_same (came e.regs.pending) e.regs.sro (came_none e.regs.pending) ∙ x.offset }
+    let x = back_then (after_back b m keeps) (back_effected from (effect_of b m.regs) (behind b m)) in
+    record {
+      base = base_same (came e.regs.pending) e.regs.srb (came_none e.regs.pending) ∙ x.base;
+      offset = offset_same (came e.regs.pending) e.regs.sro (came_none e.regs.pending) ∙ x.offset;
+    }
 
-pub done_back : (from : Sources) (bs : List Slots) (m : Run) → list_all keeps_place bs ≡ true → SameBack m (run from (all_done bs) m)
+pub done_back : (from : Sources) (bs : List Slots) (m : Run) → list_all keeps_place bs ≡ true
+    → SameBack m (run from (all_done bs) m)
 done_back from [] m keeps = record { base = refl; offset = refl }
 done_back from (b ∷ bs) m keeps =
     let both = and_parts (keeps_place b) (list_all keeps_place bs) keeps in
@@ -103,23 +111,29 @@ done_back from (b ∷ bs) m keeps =
 
 -- ---- code that calls no function
 
-back_copies : (from : Sources) (n : ℕ) (iteration : List Step) → ((m : Run) → SameBack m (run from iteration m)) → (m : Run) → SameBack m (run from (copies n iteration) m)
+back_copies : (from : Sources) (n : ℕ) (iteration : List Step) → ((m : Run) → SameBack m (run from iteration m))
+    → (m : Run) → SameBack m (run from (copies n iteration) m)
 back_copies from zero iteration one m = record { base = refl; offset = refl }
-back_copies from (suc n) iteration one m = subst (SameBack m) (sym (run_append from iteration (copies n iteration) m)) (back_then (one m) (back_copies from n iteration one (run from iteration m)))
+back_copies from (suc n) iteration one m = subst (SameBack m) (sym (run_append from iteration (copies n iteration) m))
+    (back_then (one m) (back_copies from n iteration one (run from iteration m)))
 
 mutual
-  part_back : (from : Sources) (f : ℕ → List Step) (p : PlainPart) → part_formed 0 p ≡ true → part_all keeps_place p ≡ true → (m : Run) → SameBack m (run from (part_trail f p) m)
+  part_back : (from : Sources) (f : ℕ → List Step) (p : PlainPart) → part_formed 0 p ≡ true → part_all keeps_place p
+      ≡ true → (m : Run) → SameBack m (run from (part_trail f p) m)
   part_back from f (straight bs) formed each m = done_back from bs m each
   part_back from f (repeats n body tail) formed each m =
       let a = and_parts (nat_lt 0 n) (parts_formed 0 body && is_iteration tail) formed in
       let b = and_parts (parts_formed 0 body) (is_iteration tail) a.1 in
       let c = and_parts (parts_all keeps_place body) (list_all keeps_place tail) each in
-      back_copies from n (parts_trail f body ++ all_done tail) (λ t. subst (SameBack t) (sym (run_append from (parts_trail f body) (all_done tail) t))
+      back_copies from n (parts_trail f body ++ all_done tail)
+      (λ t. subst (SameBack t) (sym (run_append from (parts_trail f body) (all_done tail) t))
       (back_then (parts_back from f body b.0 c.0 t) (done_back from tail (run from (parts_trail f body) t) c.1))) m
-  part_back from f (calls_to k tail) formed each m = let less = ltb-true k 0 (and_parts (nat_lt k 0) _ formed).0 in absurd (omega (arith, less))
+  part_back from f (calls_to k tail) formed each m =
+      let less = ltb-true k 0 (and_parts (nat_lt k 0) _ formed).0 in absurd (omega (arith, less))
   part_back from f (leaves tail) formed each m = absurd (true≢false (sym formed))
 
-  pub parts_back : (from : Sources) (f : ℕ → List Step) (ps : PlainParts) → parts_formed 0 ps ≡ true → parts_all keeps_place ps ≡ true → (m : Run) → SameBack m (run from (parts_trail f ps) m)
+  pub parts_back : (from : Sources) (f : ℕ → List Step) (ps : PlainParts) → parts_formed 0 ps ≡ true
+      → parts_all keeps_place ps ≡ true → (m : Run) → SameBack m (run from (parts_trail f ps) m)
   parts_back from f no_part formed each m = record { base = refl; offset = refl }
   parts_back from f (part p rest) formed each m =
       let a = and_parts (part_formed 0 p) (parts_formed 0 rest) formed in

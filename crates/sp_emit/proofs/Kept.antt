@@ -21,32 +21,51 @@ use Rattle.sp_emit.specs.Fits.{FunctionFits}
 use Rattle.sp_emit.proofs.Fitting.{frame_least}
 
 code_at : (s : PlainShape) (u : PlainUnit) → s ≡ emitted u → (k : ℕ) → k < length u.functions
-    → slice_index_or s.functions k no_part ≡ function_code (places_of u.functions k) (slice_index_or u.functions k no_function)
+    → slice_index_or s.functions k no_part ≡ function_code (places_of u.functions k) (slice_index_or
+    u.functions k no_function)
 code_at s u told k below = ap (λ x. slice_index_or x.functions k no_part) told ∙ codes_at u.functions k below
 
-pub idle_as : (s : PlainShape) (u : PlainUnit) → s ≡ emitted u → (k : ℕ) → k < length u.functions → parts_idle (slice_index_or s.functions k no_part) ≡ true
-idle_as s u told k below = ap parts_idle (code_at s u told k below) ∙ function_idle (places_of u.functions k) (slice_index_or u.functions k no_function)
+pub idle_as : (s : PlainShape) (u : PlainUnit) → s ≡ emitted u → (k : ℕ) → k < length u.functions
+    → parts_idle (slice_index_or s.functions k no_part) ≡ true
+idle_as s u told k below = ap parts_idle (code_at s u told k below)
+    ∙ function_idle (places_of u.functions k) (slice_index_or u.functions k no_function)
 
-pub alone_as : (s : PlainShape) (u : PlainUnit) → s ≡ emitted u → (k : ℕ) → k < length u.functions → parts_all (λ b. is_none b.second) (slice_index_or s.functions k no_part) ≡ true
-alone_as s u told k below = ap (parts_all (λ b. is_none b.second)) (code_at s u told k below) ∙ function_alone (places_of u.functions k) (slice_index_or u.functions k no_function)
+pub alone_as : (s : PlainShape) (u : PlainUnit) → s ≡ emitted u → (k : ℕ) → k < length u.functions
+    → parts_all (λ b. is_none b.second) (slice_index_or s.functions k no_part) ≡ true
+alone_as s u told k below = ap (parts_all (λ b. is_none b.second)) (code_at s u told k below)
+    ∙ function_alone (places_of u.functions k) (slice_index_or u.functions k no_function)
 
-pub steady_as : (s : PlainShape) (u : PlainUnit) → s ≡ emitted u → (k : ℕ) → k < length u.functions → parts_all is_steady (slice_index_or s.functions k no_part) ≡ true
-steady_as s u told k below = ap (parts_all is_steady) (code_at s u told k below) ∙ function_steady (places_of u.functions k) (slice_index_or u.functions k no_function)
+pub steady_as : (s : PlainShape) (u : PlainUnit) → s ≡ emitted u → (k : ℕ) → k < length u.functions
+    → parts_all is_steady (slice_index_or s.functions k no_part) ≡ true
+steady_as s u told k below = ap (parts_all is_steady) (code_at s u told k below)
+    ∙ function_steady (places_of u.functions k) (slice_index_or u.functions k no_function)
 
-pub frames_as : (s : PlainShape) (u : PlainUnit) → s ≡ emitted u → tree.is_formed u ≡ true → (k : ℕ) → k < length u.functions
-    → parts_all (takes_at_most (slice_index_or u.functions k no_function).frame) (slice_index_or s.functions k no_part) ≡ true
+pub frames_as : (s : PlainShape) (u : PlainUnit) → s ≡ emitted u → tree.is_formed u ≡ true → (k : ℕ)
+    → k < length u.functions
+    → parts_all (takes_at_most (slice_index_or u.functions k no_function).frame) (slice_index_or s.functions k no_part)
+    ≡ true
 frames_as s u told h k below =
     let f = slice_index_or u.functions k no_function in
     let a = and_parts (nat_le (length u.functions) 512) _ h in
     let b = and_parts (tree.functions_formed u.functions (length u.functions)) _ a.1 in
     let own = earlier_one u.functions k (length u.functions) below b.0 in
-    let fits : FunctionFits f = record { functions = u.functions; number = k; earlier = earlier_ones u.functions k (length u.functions) (omega (arith, below)) b.0; formed = own } in
-    ap (parts_all (takes_at_most f.frame)) (code_at s u told k below) ∙ function_takes (places_of u.functions k) f (omega (arith, frame_least fits))
+    let fits : FunctionFits f = record {
+      functions = u.functions;
+      number = k;
+      earlier = earlier_ones u.functions k
+          (length u.functions) (omega (arith, below)) b.0;
+      formed = own;
+    } in
+    ap (parts_all (takes_at_most f.frame)) (code_at s u told k below) ∙ function_takes (places_of u.functions k) f
+    (omega (arith, frame_least fits))
 
-pub room_as : (s : PlainShape) (u : PlainUnit) → s ≡ emitted u → tree.is_formed u ≡ true → (k : ℕ) → k < length u.functions
+pub room_as : (s : PlainShape) (u : PlainUnit) → s ≡ emitted u → tree.is_formed u ≡ true → (k : ℕ)
+    → k < length u.functions
     → 1 + parts_room (slice_index_or s.functions k no_part) ≤ cost (slice_index_or u.functions k no_function)
 room_as s u told h k below =
     let f = slice_index_or u.functions k no_function in
     let a = and_parts (nat_le (length u.functions) 512) _ h in
     let b = and_parts (tree.functions_formed u.functions (length u.functions)) _ a.1 in
-    subst (λ ps. 1 + parts_room ps ≤ cost f) (sym (code_at s u told k below)) (function_room (places_of u.functions k) u.functions k f (earlier_one u.functions k (length u.functions) below b.0) (omega arith))
+    subst (λ ps. 1 + parts_room ps ≤ cost f) (sym (code_at s u told k below))
+    (function_room (places_of u.functions k) u.functions k f (earlier_one u.functions k (length u.functions) below
+    b.0) (omega arith))

@@ -53,15 +53,21 @@ Ends code (Some op) = Gives code op
 number_ends : (rd n : ℕ) → Gives (one (straight (set_number rd n ∷ []))) (number_op rd n)
 number_ends rd n = record { alu = number_op_is (λ op. is_alu op ≡ true) rd n refl refl; is = refl }
 
-home_ends : (homes : Homes) (slot to : ℕ) → Ends (one (straight (word_code (flag_of homes.flags slot) homes.first to slot))) (home_op (flag_of homes.flags slot) homes.first slot to)
+home_ends : (homes : Homes) (slot to : ℕ)
+    → Ends (one (straight (word_code (flag_of homes.flags slot) homes.first to slot))) (home_op
+    (flag_of homes.flags slot) homes.first slot to)
 unfolding read_op
 home_ends homes slot to = by (flag_of homes.flags slot) (in_register homes.first slot) refl
   where
-    plain : (b : Bool) → Ends (one (straight (under always (if b then AluImm imm.Add to (homes.first + slot) 0 else Load mem.S load.Word to 0 (stack_word homes.first slot)) ∷ []))) (if b then Some (AluImm imm.Add to (homes.first + slot) 0) else None)
+    plain : (b : Bool)
+        → Ends (one (straight (under always (if b then AluImm imm.Add to (homes.first + slot) 0 else Load mem.S
+        load.Word to 0 (stack_word homes.first slot)) ∷ [])))
+        (if b then Some (AluImm imm.Add to (homes.first + slot) 0) else None)
     plain true = record { alu = refl; is = refl }
     plain false = tt
 
-    by : (o : Option ℕ) (b : Bool) → in_register homes.first slot ≡ b → Ends (one (straight (word_code o homes.first to slot))) (home_op o homes.first slot to)
+    by : (o : Option ℕ) (b : Bool) → in_register homes.first slot ≡ b
+        → Ends (one (straight (word_code o homes.first to slot))) (home_op o homes.first slot to)
     by None b is = plain (in_register homes.first slot)
     by (Some p) b is = tt
 
@@ -100,8 +106,12 @@ last_ends homes (array_word array index) rd to = tt
 last_ends homes (before_one op of) rd to = unary_ends op to (value_at homes of rd)
 last_ends homes (between_two op a b) rd to = by (is_immediate op b) (nat_lt (need a) (need b))
   where
-    by : (held less : Bool) → Ends (if held then one (straight (held_code op to (value_at homes a rd) (number_of b))) else if less then binary_code op to (value_at homes a (rd + 1)) (value_at homes b rd) else binary_code op to (value_at homes a rd) (value_at homes b (rd + 1)))
-        (if held then held_op op to (value_at homes a rd) (number_of b) else if less then binary_op op to (value_at homes a (rd + 1)) (value_at homes b rd) else binary_op op to (value_at homes a rd) (value_at homes b (rd + 1)))
+    by : (held less : Bool) → Ends (if held then one (straight (held_code op to (value_at homes a rd) (number_of b)))
+        else if less then binary_code op to (value_at homes a (rd + 1)) (value_at homes b rd) else binary_code op to
+        (value_at homes a rd) (value_at homes b (rd + 1)))
+        (if held then held_op op to (value_at homes a rd) (number_of b) else if less then binary_op op to
+        (value_at homes a (rd + 1)) (value_at homes b rd) else binary_op op to (value_at homes a rd)
+        (value_at homes b (rd + 1)))
     by true less = held_ends op to (value_at homes a rd) (number_of b)
     by false true = binary_ends op to (value_at homes a (rd + 1)) (value_at homes b rd)
     by false false = binary_ends op to (value_at homes a rd) (value_at homes b (rd + 1))
@@ -111,36 +121,52 @@ pub imm_small : (op : SpBinary) (func : ImmFunc) (n : ℕ) → imm_of op ≡ Som
 imm_small op func n is below = grind (arith, is, below)
 
 -- what it does under a predicate that is true
-pub alu_on : (from : Sources) (g : Guard) (op : Op) (m : Run) → is_alu op ≡ true → IsWhole m → holds m.regs g ≡ true → once from (under g op) m ≡ once from (under always op) m
-alu_on from g (AluImm func rd ra imm) m alu whole on = did_write from g (AluImm func rd ra imm) m whole on refl refl ∙ sym (did_write from always (AluImm func rd ra imm) m whole whole.fits.always refl refl)
-alu_on from g (AluReg func rd ra rb) m alu whole on = did_write from g (AluReg func rd ra rb) m whole on refl refl ∙ sym (did_write from always (AluReg func rd ra rb) m whole whole.fits.always refl refl)
-alu_on from g (AluLong func rd ra number) m alu whole on = did_write from g (AluLong func rd ra number) m whole on refl refl ∙ sym (did_write from always (AluLong func rd ra number) m whole whole.fits.always refl refl)
+pub alu_on : (from : Sources) (g : Guard) (op : Op) (m : Run) → is_alu op ≡ true → IsWhole m → holds m.regs g ≡ true
+    → once from (under g op) m ≡ once from (under always op) m
+alu_on from g (AluImm func rd ra imm) m alu whole on = did_write from g (AluImm func rd ra imm) m whole on refl refl
+    ∙ sym (did_write from always (AluImm func rd ra imm) m whole whole.fits.always refl refl)
+alu_on from g (AluReg func rd ra rb) m alu whole on = did_write from g (AluReg func rd ra rb) m whole on refl refl
+    ∙ sym (did_write from always (AluReg func rd ra rb) m whole whole.fits.always refl refl)
+alu_on from g (AluLong func rd ra number) m alu whole on = did_write from g (AluLong func rd ra number) m whole on refl
+    refl ∙ sym (did_write from always (AluLong func rd ra number) m whole whole.fits.always refl refl)
 alu_on from g _ m alu whole on = absurd (true≢false (sym alu))
 
 -- ---- what is set under a mask: by that instruction, or from the first register
 
-pub slot_write_is : (P : PlainParts → Type 0) (homes : Homes) (mask slot : ℕ) (e : PlainSp) → P (joined (expr_code homes e FIRST) (target_write homes mask (to_slot slot)))
-    → ((op : Op) → homes.first + slot < OVERRUN → Gives (value_code homes e FIRST (homes.first + slot)) op → P (guarded_code homes mask e op)) → P (write_code homes mask (to_slot slot) e)
+pub slot_write_is : (P : PlainParts → Type 0) (homes : Homes) (mask slot : ℕ) (e : PlainSp)
+    → P (joined (expr_code homes e FIRST) (target_write homes mask (to_slot slot)))
+    → ((op : Op) → homes.first + slot < OVERRUN → Gives (value_code homes e FIRST (homes.first + slot)) op
+    → P (guarded_code homes mask e op)) → P (write_code homes mask (to_slot slot) e)
 slot_write_is P homes mask slot e other guarded = by (in_register homes.first slot) refl
   where
-    ended : homes.first + slot < OVERRUN → (o : Option Op) → Ends (value_code homes e FIRST (homes.first + slot)) o → P (write_by homes mask (to_slot slot) e o)
+    ended : homes.first + slot < OVERRUN → (o : Option Op) → Ends (value_code homes e FIRST (homes.first + slot)) o
+        → P (write_by homes mask (to_slot slot) e o)
     ended lt None ends = other
     ended lt (Some op) ends = guarded op lt ends
 
-    by : (b : Bool) → in_register homes.first slot ≡ b → P (write_by homes mask (to_slot slot) e (if b then last_op homes e FIRST (homes.first + slot) else None))
+    by : (b : Bool) → in_register homes.first slot ≡ b
+        → P (write_by homes mask (to_slot slot) e (if b then last_op homes e FIRST (homes.first + slot) else None))
     by false is = other
-    by true is = ended (ltb-true (homes.first + slot) OVERRUN is) (last_op homes e FIRST (homes.first + slot)) (last_ends homes e FIRST (homes.first + slot))
+    by true is = ended (ltb-true (homes.first + slot) OVERRUN is) (last_op homes e FIRST (homes.first + slot))
+        (last_ends homes e FIRST (homes.first + slot))
 
-pub write_is : (P : PlainParts → Type 0) (homes : Homes) (mask : ℕ) (target : PlainSpTarget) (e : PlainSp) → P (joined (expr_code homes e FIRST) (target_write homes mask target))
-    → ((slot : ℕ) (op : Op) → target ≡ to_slot slot → Gives (value_code homes e FIRST (homes.first + slot)) op → P (guarded_code homes mask e op)) → P (write_code homes mask target e)
+pub write_is : (P : PlainParts → Type 0) (homes : Homes) (mask : ℕ) (target : PlainSpTarget) (e : PlainSp)
+    → P (joined (expr_code homes e FIRST) (target_write homes mask target))
+    → ((slot : ℕ) (op : Op) → target ≡ to_slot slot → Gives (value_code homes e FIRST (homes.first + slot)) op
+    → P (guarded_code homes mask e op)) → P (write_code homes mask target e)
 write_is P homes mask (to_cell cell) e other guarded = other
 write_is P homes mask (to_array array index) e other guarded = other
-write_is P homes mask (to_slot slot) e other guarded = slot_write_is P homes mask slot e other (λ op here gives. guarded slot op refl gives)
+write_is P homes mask (to_slot slot) e other guarded =
+    slot_write_is P homes mask slot e other (λ op here gives. guarded slot op refl gives)
 
 -- what holds of each bundle
-pub guarded_each : (holds : Slots → Bool) (homes : Homes) (mask : ℕ) (e : PlainSp) (op : Op) → parts_all holds (operands_code homes e FIRST) ≡ true → holds (seek_word homes mask) ≡ true → holds (match_word homes mask) ≡ true
+pub guarded_each : (holds : Slots → Bool) (homes : Homes) (mask : ℕ) (e : PlainSp) (op : Op)
+    → parts_all holds (operands_code homes e FIRST) ≡ true → holds (seek_word homes mask) ≡ true
+    → holds (match_word homes mask) ≡ true
     → holds (under (where_so (told_at homes mask)) op) ≡ true → parts_all holds (guarded_code homes mask e op) ≡ true
 guarded_each holds homes mask e op before fetch test last =
     let bundles = mask_test homes mask ++ under (where_so (told_at homes mask)) op ∷ [] in
     each_joined holds (operands_code homes e FIRST) (one (straight bundles)) before
-    (each_lone holds bundles (and_from (holds (seek_word homes mask)) _ fetch (and_from (holds (match_word homes mask)) _ test (and_from (holds (under (where_so (told_at homes mask)) op)) true last refl))))
+    (each_lone holds bundles (and_from (holds (seek_word homes mask)) _ fetch
+    (and_from (holds (match_word homes mask)) _ test (and_from (holds (under (where_so (told_at homes mask)) op))
+    true last refl))))

@@ -27,7 +27,8 @@ some_need (between_two op a b) = by (nat_lt (need a) (need b))
     by true = omega arith
     by false = omega arith
 
-pub covers : (less : Bool) (a b : ℕ) → (a ≤ (if less then max b (a + 1) else max a (b + 1))) × (b ≤ (if less then max b (a + 1) else max a (b + 1)))
+pub covers : (less : Bool) (a b : ℕ) → (a ≤ (if less then max b (a + 1) else max a (b + 1)))
+    × (b ≤ (if less then max b (a + 1) else max a (b + 1)))
 covers true a b = (omega arith, omega arith)
 covers false a b = (omega arith, omega arith)
 
@@ -52,10 +53,12 @@ slot_few _ f = omega arith
 pub cell_named : {rd : ℕ} (cell : SpCell) → ExprFits (cell_word cell) rd → cell_formed cell ≡ true
 cell_named cell f = f.names
 
-pub array_named : {rd : ℕ} (array : SpArray) (index : PlainSp) → ExprFits (array_word array index) rd → array_formed array ≡ true
+pub array_named : {rd : ℕ} (array : SpArray) (index : PlainSp) → ExprFits (array_word array index) rd
+    → array_formed array ≡ true
 array_named array index f = (and_parts (array_formed array) (names_words f.slots index) f.names).0
 
-pub index_named : {rd : ℕ} (array : SpArray) (index : PlainSp) → ExprFits (array_word array index) rd → ExprFits index rd
+pub index_named : {rd : ℕ} (array : SpArray) (index : PlainSp) → ExprFits (array_word array index) rd
+    → ExprFits index rd
 index_named array index f = record {
   slots = f.slots;
   most = f.most;
@@ -82,21 +85,23 @@ second_fits op a b f = record {
   registers = omega (arith, f.registers, (covers (nat_lt (need a) (need b)) (need a) (need b)).1);
 }
 
-pub first_fits_behind : {rd : ℕ} (op : SpBinary) (a b : PlainSp) → ExprFits (between_two op a b) rd → nat_lt (need a) (need b) ≡ true → ExprFits a (rd + 1)
-first_fits_behind op a b f less = record {
+pub first_fits_after : {rd : ℕ} (op : SpBinary) (a b : PlainSp) → ExprFits (between_two op a b) rd
+    → nat_lt (need a) (need b) ≡ true → ExprFits a (rd + 1)
+first_fits_after op a b f less = record {
   slots = f.slots;
   most = f.most;
   names = (and_parts (names_words f.slots a) (names_words f.slots b) f.names).0;
   registers = omega (arith, f.registers, lesser (need a) (need b) less);
 }
 
-pub second_fits_behind : {rd : ℕ} (op : SpBinary) (a b : PlainSp) → ExprFits (between_two op a b) rd → nat_lt (need a) (need b) ≡ false → ExprFits b (rd + 1)
-second_fits_behind op a b f more = record {
+pub second_fits_after : {rd : ℕ} (op : SpBinary) (a b : PlainSp) → ExprFits (between_two op a b) rd
+    → nat_lt (need a) (need b) ≡ false → ExprFits b (rd + 1)
+second_fits_after op a b f more = record {
   slots = f.slots;
   most = f.most;
   names = (and_parts (names_words f.slots a) (names_words f.slots b) f.names).1;
   registers = omega (arith, f.registers, greater (need a) (need b) more);
 }
 
-pub one_behind : {rd : ℕ} (e : PlainSp) → ExprFits e rd → rd + 1 < 32
-one_behind e f = omega (arith, f.registers, some_need e)
+pub one_after : {rd : ℕ} (e : PlainSp) → ExprFits e rd → rd + 1 < 32
+one_after e f = omega (arith, f.registers, some_need e)

@@ -7,7 +7,8 @@ use Rattle.patmos_instr.specs.declared.instructions.Op.{Op}
 use Rattle.patmos_instr.specs.declared.instructions.Op.TheVariants.{AluImm, AluLong}
 use Rattle.sp_emit.specs.Instructions.{number_op}
 
-pub number_op_is : (P : Op → Type 0) (rd n : ℕ) → P (AluImm imm.Add rd 0 n) → P (AluLong alu.Add rd 0 n) → P (number_op rd n)
+pub number_op_is : (P : Op → Type 0) (rd n : ℕ) → P (AluImm imm.Add rd 0 n) → P (AluLong alu.Add rd 0 n)
+    → P (number_op rd n)
 unfolding number_op
 number_op_is P rd n short long = by (nat_lt n 4096)
   where

@@ -33,19 +33,25 @@ is_portless_op _ = true
 abbrev pub is_portless : Slots → Bool
 is_portless b = is_portless_op b.first.op
 
-portless_well : (on : Bool) (op : Op) (regs : Registers) (k : Memory) → is_portless_op op ≡ true → StartsWell (if on then asked regs op else effect.Nothing) k
+portless_well : (on : Bool) (op : Op) (regs : Registers) (k : Memory) → is_portless_op op ≡ true
+    → StartsWell (if on then asked regs op else effect.Nothing) k
 portless_well false op regs k e = tt
 portless_well true (Store mem.L width ra rs imm) regs k e = absurd (true≢false (sym e))
 portless_well true (Store _ width ra rs imm) regs k e = tt
 portless_well true _ regs k e = tt
 
-pub portless_start : (from : Sources) (bs : List Slots) (m : Run) → list_all is_portless bs ≡ true → AllStart from (all_done bs) m
+pub portless_start : (from : Sources) (bs : List Slots) (m : Run) → list_all is_portless bs ≡ true
+    → AllStart from (all_done bs) m
 portless_start from [] m e = tt
 portless_start from (b ∷ bs) m e =
-    let p = and_parts (is_portless b) (list_all is_portless bs) e in
-    (portless_well (holds m.regs b.first.guard) b.first.op m.regs m.memory p.0, portless_start from bs (once from b m) p.1)
+    let p = and_parts (is_portless b) (list_all is_portless bs) e in (
+      portless_well (holds m.regs b.first.guard) b.first.op m.regs m.memory p.0,
+      portless_start from bs
+          (once from b m) p.1,
+    )
 
-pub start_append : (from : Sources) (xs ys : List Step) (m : Run) → AllStart from xs m → AllStart from ys (run from xs m) → AllStart from (xs ++ ys) m
+pub start_append : (from : Sources) (xs ys : List Step) (m : Run) → AllStart from xs m
+    → AllStart from ys (run from xs m) → AllStart from (xs ++ ys) m
 start_append from [] ys m a b = b
 start_append from (does x ∷ xs) ys m a b = (a.0, start_append from xs ys (once from x m) a.1 b)
 start_append from (begins ∷ xs) ys m a b = start_append from xs ys (begun m) a b
@@ -56,7 +62,8 @@ words_left from [] ys m words = tt
 words_left from (does x ∷ xs) ys m words = (words.0, words_left from xs ys (once from x m) words.1)
 words_left from (begins ∷ xs) ys m words = words_left from xs ys (begun m) words
 
-pub words_right : (from : Sources) (xs ys : List Step) (m : Run) → AllWords from (xs ++ ys) m → AllWords from ys (run from xs m)
+pub words_right : (from : Sources) (xs ys : List Step) (m : Run) → AllWords from (xs ++ ys) m
+    → AllWords from ys (run from xs m)
 words_right from [] ys m words = words
 words_right from (does x ∷ xs) ys m words = words_right from xs ys (once from x m) words.1
 words_right from (begins ∷ xs) ys m words = words_right from xs ys (begun m) words
@@ -65,10 +72,12 @@ words_right from (begins ∷ xs) ys m words = words_right from xs ys (begun m) w
 pub portless_test : (homes : Homes) (mask : ℕ) → list_all is_portless (mask_test homes mask) ≡ true
 portless_test homes mask =
     test_is (λ bs. list_all is_portless bs ≡ true) homes mask (λ p is. refl)
-    (λ is. fetch_is (λ b. list_all is_portless (b ∷ compare_short cmp.Eq TEST (fetched_at homes.first mask) 1 ∷ []) ≡ true) homes.first mask refl (λ out. refl))
+    (λ is. fetch_is (λ b. list_all is_portless (b ∷ compare_short cmp.Eq TEST (fetched_at homes.first mask) 1 ∷ [])
+    ≡ true) homes.first mask refl (λ out. refl))
 
 pub portless_number : (rd n : ℕ) → is_portless (set_number rd n) ≡ true
 portless_number rd n = number_op_is (λ op. is_portless (under always op) ≡ true) rd n refl refl
 
 pub portless_address : (a : SpArray) (pd rd ra : ℕ) → AddressAre (λ b. is_portless b ≡ true) a pd rd ra
-portless_address a pd rd ra = address_are (λ b. is_portless b ≡ true) a pd rd ra refl (portless_number SPARE) refl refl refl refl
+portless_address a pd rd ra =
+    address_are (λ b. is_portless b ≡ true) a pd rd ra refl (portless_number SPARE) refl refl refl refl

@@ -35,17 +35,20 @@ use Rattle.sp_emit.specs.declared.stands.Homes.{Homes}
 
 -- ---- each bundle
 
-pub each_joined : (holds : Slots → Bool) (a b : PlainParts) → parts_all holds a ≡ true → parts_all holds b ≡ true → parts_all holds (joined a b) ≡ true
+pub each_joined : (holds : Slots → Bool) (a b : PlainParts) → parts_all holds a ≡ true → parts_all holds b ≡ true
+    → parts_all holds (joined a b) ≡ true
 each_joined holds no_part b x y = y
 each_joined holds (part p a) b x y =
     let parts = and_parts (part_all holds p) (parts_all holds a) x in
     and_from (part_all holds p) (parts_all holds (joined a b)) parts.0 (each_joined holds a b parts.1 y)
 
-pub each_lone : (holds : Slots → Bool) (bs : List Slots) → list_all holds bs ≡ true → parts_all holds (one (straight bs)) ≡ true
+pub each_lone : (holds : Slots → Bool) (bs : List Slots) → list_all holds bs ≡ true
+    → parts_all holds (one (straight bs)) ≡ true
 each_lone holds bs x = and_from (list_all holds bs) true x refl
 
 mutual
-  part_so : (p q : Slots → Bool) → ((b : Slots) → p b ≡ true → q b ≡ true) → (a : PlainPart) → part_all p a ≡ true → part_all q a ≡ true
+  part_so : (p q : Slots → Bool) → ((b : Slots) → p b ≡ true → q b ≡ true) → (a : PlainPart) → part_all p a ≡ true
+      → part_all q a ≡ true
   part_so p q so (straight bs) x = all_weaker p q so bs x
   part_so p q so (repeats count body tail) x =
       let parts = and_parts (parts_all p body) (list_all p tail) x in
@@ -53,7 +56,8 @@ mutual
   part_so p q so (calls_to k tail) x = all_weaker p q so tail x
   part_so p q so (leaves tail) x = all_weaker p q so tail x
 
-  pub each_so : (p q : Slots → Bool) → ((b : Slots) → p b ≡ true → q b ≡ true) → (a : PlainParts) → parts_all p a ≡ true → parts_all q a ≡ true
+  pub each_so : (p q : Slots → Bool) → ((b : Slots) → p b ≡ true → q b ≡ true) → (a : PlainParts) → parts_all p a ≡ true
+      → parts_all q a ≡ true
   each_so p q so no_part x = refl
   each_so p q so (part a rest) x =
       let parts = and_parts (part_all p a) (parts_all p rest) x in
@@ -79,7 +83,8 @@ pub low_spared : (pd q : ℕ) → pd < FLAGS → FLAGS ≤ q → not (pd == q) �
 low_spared pd q few from = ap not (ne_eqb pd q (λ same. absurd (omega (arith, same, few, from))))
 
 -- it does not set a predicate of the four
-pub quiet_spares : (q : ℕ) → FLAGS ≤ q → (g : Guard) (op : Op) → is_quiet_op g op ≡ true → leaves_op (predicate q) op ≡ true
+pub quiet_spares : (q : ℕ) → FLAGS ≤ q → (g : Guard) (op : Op) → is_quiet_op g op ≡ true → leaves_op (predicate q) op
+    ≡ true
 quiet_spares q from g (Cmp func pd ra rb) quiet = low_spared pd q (ltb-true pd FLAGS quiet) from
 quiet_spares q from g (CmpImm func pd ra imm) quiet = low_spared pd q (ltb-true pd FLAGS quiet) from
 quiet_spares q from g (Comb func pd a b) quiet = low_spared pd q (ltb-true pd FLAGS quiet) from
@@ -114,16 +119,24 @@ number_quiet rd n = number_op_is (λ op. is_quiet_op always op ≡ true) rd n re
 value_quiet : (homes : Homes) (e : PlainSp) (rd to : ℕ) → Quiet (value_code homes e rd to)
 value_quiet homes (constant v) rd to = rw (number_quiet to v) refl
 value_quiet homes (frame_word slot) rd to =
-    each_lone is_quiet (word_code (flag_of homes.flags slot) homes.first to slot) (word_code_is AreQuiet homes to slot (λ p. refl) (rw (read_quiet homes.first to slot) refl))
+    each_lone is_quiet (word_code (flag_of homes.flags slot) homes.first to slot) (word_code_is AreQuiet homes to slot
+    (λ p. refl) (rw (read_quiet homes.first to slot) refl))
 value_quiet homes (cell_word cell) rd to = rw (number_quiet to (address_of cell.region cell.word)) refl
 value_quiet homes (array_word array index) rd to =
-    let a = address_are (λ b. is_quiet b ≡ true) array TEST to (value_at homes index rd) refl (λ n. rw (number_quiet SPARE n) refl) refl refl refl refl in
+    let a = address_are (λ b. is_quiet b ≡ true) array TEST to (value_at homes index rd) refl
+    (λ n. rw (number_quiet SPARE n) refl) refl refl refl refl in
     rw (a.length, a.below, a.base, a.scaled) refl
-value_quiet homes (before_one op of) rd to = each_lone is_quiet (unary_code op to (value_at homes of rd)) (unary_quiet op to (value_at homes of rd))
+value_quiet homes (before_one op of) rd to =
+    each_lone is_quiet (unary_code op to (value_at homes of rd)) (unary_quiet op to (value_at homes of rd))
 value_quiet homes (between_two op a b) rd to =
-    one_of Quiet (is_immediate op b) (nat_lt (need a) (need b)) (one (straight (held_code op to (value_at homes a rd) (number_of b)))) (binary_code op to (value_at homes a (rd + 1)) (value_at homes b rd)) (binary_code op to (value_at homes a rd) (value_at homes b (rd + 1)))
-    (each_lone is_quiet (held_code op to (value_at homes a rd) (number_of b)) (held_quiet op to (value_at homes a rd) (number_of b)))
-    (λ less. binary_quiet op to (value_at homes a (rd + 1)) (value_at homes b rd)) (λ more. binary_quiet op to (value_at homes a rd) (value_at homes b (rd + 1)))
+    one_of Quiet (is_immediate op b) (nat_lt (need a) (need b))
+    (one (straight (held_code op to (value_at homes a rd) (number_of b))))
+    (binary_code op to (value_at homes a (rd + 1)) (value_at homes b rd))
+    (binary_code op to (value_at homes a rd) (value_at homes b (rd + 1)))
+    (each_lone is_quiet (held_code op to (value_at homes a rd) (number_of b)) (held_quiet op to (value_at homes a rd)
+    (number_of b)))
+    (λ less. binary_quiet op to (value_at homes a (rd + 1)) (value_at homes b rd))
+    (λ more. binary_quiet op to (value_at homes a rd) (value_at homes b (rd + 1)))
 
 pub operands_quiet : (homes : Homes) (e : PlainSp) (rd : ℕ) → Quiet (operands_code homes e rd)
 operands_quiet homes e rd = each_operands_are Quiet homes refl (each_joined is_quiet) (value_quiet homes) e rd
@@ -133,4 +146,5 @@ expr_quiet homes e rd to = each_expr_is Quiet homes refl (each_joined is_quiet) 
 
 pub args_quiet : (homes : Homes) (args : List PlainSp) (rd : ℕ) → Quiet (args_code homes args rd)
 args_quiet homes [] rd = refl
-args_quiet homes (e ∷ args) rd = each_joined is_quiet (expr_code homes e rd) (args_code homes args (rd + 1)) (expr_quiet homes e rd rd) (args_quiet homes args (rd + 1))
+args_quiet homes (e ∷ args) rd = each_joined is_quiet (expr_code homes e rd) (args_code homes args (rd + 1))
+    (expr_quiet homes e rd rd) (args_quiet homes args (rd + 1))

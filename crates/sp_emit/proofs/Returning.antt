@@ -28,7 +28,7 @@ use Rattle.sp_emit.proofs.Calm.{is_calm_trail, calm_run}
 use Rattle.sp_emit.proofs.CalmCode.{own_free}
 use Rattle.sp_emit.proofs.WordPlaces.{word_still, read_is, read_leaves}
 use Rattle.sp_emit.proofs.Quotients.{did_copy}
-use Rattle.sp_emit.proofs.Once.{behind_slot, slot_behind, unchanged, with_regs, did_write, whole_written, held_written, kept_by_special}
+use Rattle.sp_emit.proofs.Once.{behind_slot, slot_after, unchanged, with_regs, did_write, whole_written, held_written, kept_by_special}
 
 -- the stack, the window and the world as they were
 pub record Ends (homes : ℕ) (w : World) (m t : Run) : Type 0 where
@@ -37,38 +37,66 @@ pub record Ends (homes : ℕ) (w : World) (m t : Run) : Type 0 where
   pub st : t.st ≡ m.st
   pub high : KeepsFrom homes m t
 
-ends_calm : {rd : ℕ} (homes : ℕ) (w : World) (m n : Run) (b : Slots) → Ends homes w m n → Keeps rd homes n (once by_words b n) → Ends homes w m (once by_words b n)
+ends_calm : {rd : ℕ} (homes : ℕ) (w : World) (m n : Run) (b : Slots) → Ends homes w m n
+    → Keeps rd homes n (once by_words b n) → Ends homes w m (once by_words b n)
 ends_calm homes w m n b x k = record {
-  carries = record { whole = k.whole; has = subst (HasWords w) (sym k.memory) x.carries.has; words = x.carries.words; flag = k.flag ∙ x.carries.flag };
+  carries = record {
+    whole = k.whole;
+    has = subst (HasWords w) (sym k.memory) x.carries.has;
+    words = x.carries.words;
+    flag = k.flag ∙ x.carries.flag;
+  };
   stack = k.stack ∙ x.stack;
   st = k.st ∙ x.st;
   high = λ q from lt. k.high q from lt ∙ x.high q from lt;
 }
 
 -- a word of the stack comes to the spare register and from there to a special one
-ends_special : (homes : ℕ) (w : World) (m n : Run) (slot : ℕ) (s : WritableSpecial) → Ends homes w m n → Ends homes w m (once by_words (to_special s SPARE) (once by_words (load_slot SPARE slot) n))
+ends_special : (homes : ℕ) (w : World) (m n : Run) (slot : ℕ) (s : WritableSpecial) → Ends homes w m n
+    → Ends homes w m (once by_words (to_special s SPARE) (once by_words (load_slot SPARE slot) n))
 ends_special homes w m n slot s x =
-    let y = ends_calm homes w m n (load_slot SPARE slot) x (calm_run by_words SPARE homes (all_done (load_slot SPARE slot ∷ [])) n (omega arith) x.carries.whole refl) in
+    let y = ends_calm homes w m n (load_slot SPARE slot) x (calm_run by_words SPARE homes
+    (all_done (load_slot SPARE slot ∷ [])) n (omega arith) x.carries.whole refl) in
     let n1 = once by_words (load_slot SPARE slot) n in
     let v = held SPARE n1 in
-    subst (Ends homes w m) (sym (did_write by_words always (ToSpecial s SPARE) n1 y.carries.whole y.carries.whole.fits.always refl refl)) (record {
-      carries = record { whole = whole_written (write.Special s v) n1 y.carries.whole; has = y.carries.has; words = y.carries.words; flag = kept_by_special s v OVERRUN n1 y.carries.whole (omega arith) ∙ y.carries.flag };
+    subst (Ends homes w m) (sym (did_write by_words always (ToSpecial s SPARE) n1 y.carries.whole
+    y.carries.whole.fits.always refl refl)) (record {
+      carries = record {
+        whole = whole_written (write.Special s v) n1 y.carries.whole;
+        has = y.carries.has;
+        words = y.carries.words;
+        flag =
+            kept_by_special s v OVERRUN n1 y.carries.whole (omega arith) ∙ y.carries.flag;
+      };
       stack = y.stack;
       st = y.st;
       high = λ q from lt. kept_by_special s v q n1 y.carries.whole (omega (arith, lt)) ∙ y.high q from lt;
     })
 
 -- a function returns
-pub did_return : (from : Sources) (m : Run) → IsWhole m → once from return m ≡ record m { ways = m.ways ++ runs.returns m.regs.srb m.regs.sro ∷ [] }
-unfolding slot_behind with_regs
+pub did_return : (from : Sources) (m : Run) → IsWhole m → once from return m
+    ≡ record m { ways = m.ways ++ runs.returns m.regs.srb m.regs.sro ∷ [] }
+unfolding slot_after with_regs
 did_return from m whole =
-    ap (λ e. with_settled (effected from e (with_regs m (slot_behind (holds m.regs always) Return m)))) (ap (λ h. if h then asked m.regs Return else effect.Nothing) whole.fits.always)
-    ∙ ap (λ h. with_regs (record m { ways = m.ways ++ runs.returns m.regs.srb m.regs.sro ∷ [] }) (settled (slot_behind h Return m))) whole.fits.always
-    ∙ ap (with_regs (record m { ways = m.ways ++ runs.returns m.regs.srb m.regs.sro ∷ [] })) (behind_slot write.Nothing pending.Nothing m.regs whole.pending ∙ unchanged m.regs whole.fits whole.pending)
+    ap (λ e. with_settled (effected from e (with_regs m (slot_after (holds m.regs always) Return m))))
+    (ap (λ h. if h then asked m.regs Return else effect.Nothing) whole.fits.always)
+    ∙ ap (λ h. with_regs (record m { ways = m.ways ++ runs.returns m.regs.srb m.regs.sro ∷ [] })
+    (settled (slot_after h Return m))) whole.fits.always
+    ∙ ap (with_regs (record m { ways = m.ways ++ runs.returns m.regs.srb m.regs.sro ∷ [] }))
+    (behind_slot write.Nothing pending.Nothing m.regs whole.pending ∙ unchanged m.regs whole.fits whole.pending)
 
 returns_with : (m : Run) → IsWhole m → Begins m (run by_words (all_done return_tail) m)
 returns_with m whole =
-    let c : Begins m (once by_words return m) = subst (Begins m) (sym (did_return by_words m whole)) (record { whole = record { fits = whole.fits; pending = whole.pending }; regs = λ x lt. refl; preds = λ p lt. refl; stack = refl; st = refl; memory = refl }) in
+    let c : Begins m (once by_words return m) = subst (Begins m) (sym (did_return by_words m whole))
+    (record {
+      whole = record { fits = whole.fits; pending = whole.pending };
+      regs = λ x lt. refl;
+      preds = λ p lt.
+          refl;
+      stack = refl;
+      st = refl;
+      memory = refl;
+    }) in
     idle_begins m _ (idle_begins m _ (idle_begins m _ c))
 
 -- the end of a function whose frame has so many words
@@ -97,19 +125,32 @@ record Freed (frame : ℕ) (m t : Run) : Type 0 where
 
 frees : (frame : ℕ) (m : Run) → IsWhole m → Freed frame m (run by_words (all_done (words_freed frame)) m)
 frees zero m whole = record { whole = whole; regs = λ r. refl; stack = refl; st = omega arith; memory = refl }
-frees (suc n) m whole = subst (Freed (suc n) m) (sym (did_stack by_words Sfree (suc n) m whole)) (record { whole = record { fits = whole.fits; pending = whole.pending }; regs = λ r. refl; stack = refl; st = refl; memory = refl })
+frees (suc n) m whole = subst (Freed (suc n) m) (sym (did_stack by_words Sfree (suc n) m whole))
+    (record {
+      whole = record { fits = whole.fits; pending = whole.pending };
+      regs = λ r. refl;
+      stack = refl;
+      st = refl;
+      memory = refl;
+    })
 
-gives_value : (homes : ℕ) (w : World) (frame slot v : ℕ) (m n : Run) → Ends homes w m n → MASK < homes → slot < 128 → word_of homes slot m ≡ v → v < 2 ^ 32
-    → Returned homes w frame v m (run by_words (all_done return_tail) (run by_words (all_done (given_of homes frame slot)) n))
+gives_value : (homes : ℕ) (w : World) (frame slot v : ℕ) (m n : Run) → Ends homes w m n → MASK < homes → slot < 128
+    → word_of homes slot m ≡ v → v < 2 ^ 32
+    → Returned homes w frame v m (run by_words (all_done return_tail)
+    (run by_words (all_done (given_of homes frame slot)) n))
 gives_value homes w frame slot v m n b within few value word =
     let own = own_free 1 homes RESULT (omega arith) (omega arith) (omega (arith, within)) in
-    let c = ends_calm homes w m n (read_word homes RESULT slot) b (calm_run by_words 1 homes (all_done (read_word homes RESULT slot ∷ [])) n (omega arith) b.carries.whole
-    (read_is (λ b. is_calm_trail 1 homes (all_done (b ∷ [])) ≡ true) homes RESULT slot (grind (arith, own)) (λ out. grind (arith, own)))) in
+    let c = ends_calm homes w m n (read_word homes RESULT slot) b
+    (calm_run by_words 1 homes (all_done (read_word homes RESULT slot ∷ [])) n (omega arith) b.carries.whole
+    (read_is (λ b. is_calm_trail 1 homes (all_done (b ∷ [])) ≡ true) homes RESULT slot (grind (arith, own))
+    (λ out. grind (arith, own)))) in
     let n1 = once by_words (read_word homes RESULT slot) n in
     let same : word_of homes slot n ≡ v = word_still homes slot m n b.high b.stack b.st ∙ value in
-    let is : held RESULT n1 ≡ v = read_leaves by_words homes RESULT slot n refl b.carries.whole (omega arith) (omega arith) few (subst (λ x. x < 2 ^ 32) (sym same) word) ∙ same in
+    let is : held RESULT n1 ≡ v = read_leaves by_words homes RESULT slot n refl b.carries.whole (omega arith)
+    (omega arith) few (subst (λ x. x < 2 ^ 32) (sym same) word) ∙ same in
     let free_mask = own_free 2 homes MASK (omega arith) (omega arith) within in
-    let k = calm_run by_words 2 homes (all_done (copy MASK OVERRUN ∷ [])) n1 (omega arith) c.carries.whole (grind (arith, free_mask)) in
+    let k = calm_run by_words 2 homes (all_done (copy MASK OVERRUN ∷ [])) n1 (omega arith) c.carries.whole
+    (grind (arith, free_mask)) in
     let n2 = once by_words (copy MASK OVERRUN) n1 in
     let free = frees frame n2 k.whole in
     let n3 = run by_words (all_done (words_freed frame)) n2 in
@@ -122,7 +163,10 @@ gives_value homes w frame slot v m n b within few value word =
         flag = r.regs OVERRUN (omega arith) ∙ free.regs OVERRUN ∙ k.flag ∙ c.carries.flag;
       };
       value = r.regs RESULT (omega arith) ∙ free.regs RESULT ∙ k.low RESULT (omega arith) ∙ is;
-      flagged = r.regs MASK (omega arith) ∙ free.regs MASK ∙ ap (held MASK) (did_copy by_words MASK OVERRUN n1 c.carries.whole) ∙ held_written (write.Register MASK ((held OVERRUN n1 + 0) % 2 ^ 32)) MASK n1 c.carries.whole (omega arith)
+      flagged = r.regs MASK (omega arith) ∙ free.regs MASK
+          ∙ ap (held MASK) (did_copy by_words MASK OVERRUN n1 c.carries.whole)
+          ∙ held_written (write.Register MASK ((held OVERRUN n1 + 0) % 2 ^ 32)) MASK n1 c.carries.whole
+          (omega arith)
           ∙ ap (λ z. (z + 0) % 2 ^ 32) c.carries.flag ∙ flag_copied w.overrun;
       stack = r.stack ∙ free.stack ∙ k.stack ∙ c.stack;
       st = r.st ∙ free.st ∙ ap (λ n. n + frame) (k.st ∙ c.st);
@@ -131,12 +175,26 @@ gives_value homes w frame slot v m n b within few value word =
 
 -- the place to which the function returns is brought back before, where it calls others
 abbrev place_of : ℕ → Bool → List Slots
-place_of base calls = if calls then load_slot SPARE base ∷ to_special writable.Srb SPARE ∷ load_slot SPARE (base + 1) ∷ to_special writable.Sro SPARE ∷ [] else []
+place_of base calls = if calls then load_slot SPARE base ∷ to_special writable.Srb SPARE ∷ load_slot SPARE (base + 1)
+    ∷ to_special writable.Sro SPARE ∷ [] else []
 
-pub returns_value : (homes : ℕ) (w : World) (frame base slot v : ℕ) (calls : Bool) (m : Run) → Carries w m → MASK < homes → slot < 128 → word_of homes slot m ≡ v → v < 2 ^ 32
-    → Returned homes w frame v m (run by_words (all_done return_tail) (run by_words (all_done (place_of base calls ++ given_of homes frame slot)) m))
+pub returns_value : (homes : ℕ) (w : World) (frame base slot v : ℕ) (calls : Bool) (m : Run) → Carries w m
+    → MASK < homes → slot < 128 → word_of homes slot m ≡ v → v < 2 ^ 32
+    → Returned homes w frame v m (run by_words (all_done return_tail)
+    (run by_words (all_done (place_of base calls ++ given_of homes frame slot)) m))
 returns_value homes w frame base slot v true m carries within few value word =
-    let a = ends_special homes w m m base writable.Srb (record { carries = carries; stack = refl; st = refl; high = λ q from lt. refl }) in
+    let a = ends_special homes w m m base writable.Srb (record {
+      carries = carries;
+      stack = refl;
+      st = refl;
+      high = λ q from lt. refl;
+    }) in
     gives_value homes w frame slot v m _ (ends_special homes w m _ (base + 1) writable.Sro a) within few value word
 returns_value homes w frame base slot v false m carries within few value word =
-    gives_value homes w frame slot v m m (record { carries = carries; stack = refl; st = refl; high = λ q from lt. refl }) within few value word
+    gives_value homes w frame slot v m m (record {
+      carries = carries;
+      stack = refl;
+      st = refl;
+      high = λ q from lt.
+          refl;
+    }) within few value word

@@ -84,7 +84,8 @@ number_room : (rd n : ℕ) → bundle_room (set_number rd n) ≤ constant_cost n
 unfolding number_op
 number_room rd n = by (nat_lt n 4096)
   where
-    by : (b : Bool) → bundle_room (under always (if b then AluImm imm.Add rd 0 n else AluLong alu.Add rd 0 n)) ≤ (if b then 1 else 2)
+    by : (b : Bool) → bundle_room (under always (if b then AluImm imm.Add rd 0 n else AluLong alu.Add rd 0 n))
+        ≤ (if b then 1 else 2)
     by true = omega arith
     by false = omega arith
 
@@ -92,16 +93,19 @@ number_words : (rd n : ℕ) → bundle_room (set_number rd n) ≤ 2
 number_words rd n = number_op_is (λ op. bundle_room (under always op) ≤ 2) rd n (omega arith) (omega arith)
 
 spare_words : (is_held : Bool) (n : ℕ) → bundle_room (under always (spare_op is_held n)) ≤ 2
-spare_words is_held n = spare_op_is (λ op. bundle_room (under always op) ≤ 2) is_held n (omega arith) (number_words SPARE n)
+spare_words is_held n =
+    spare_op_is (λ op. bundle_room (under always op) ≤ 2) is_held n (omega arith) (number_words SPARE n)
 
 below_words : (pd ra length : ℕ) → bundle_room (under always (below_op pd ra length)) ≤ 1
-below_words pd ra length = below_op_is (λ op. bundle_room (under always op) ≤ 1) pd ra length (omega arith) (omega arith)
+below_words pd ra length =
+    below_op_is (λ op. bundle_room (under always op) ≤ 1) pd ra length (omega arith) (omega arith)
 
 scaled_words : (a : SpArray) (rd ra : ℕ) → bundle_room (under always (scaled_op a rd ra)) ≤ 1
 scaled_words a rd ra = scaled_op_is (λ op. bundle_room (under always op) ≤ 1) a rd ra (omega arith) (omega arith)
 
 set_words : (homes : ℕ) (g : Guard) (slot rs : ℕ) → bundle_room (set_word homes g slot rs) ≤ 1
-set_words homes g slot rs = set_op_is (λ op. bundle_room (under g op) ≤ 1) homes slot rs (omega arith) (λ out. omega arith)
+set_words homes g slot rs =
+    set_op_is (λ op. bundle_room (under g op) ≤ 1) homes slot rs (omega arith) (λ out. omega arith)
 
 -- each costs a word
 some_unary : (op : SpUnary) → 1 ≤ unary_cost op
@@ -124,36 +128,52 @@ some_cost (between_two op a b) = omega (arith, some_binary op)
 some_cost _ = omega arith
 
 -- what the cost counts as held by an instruction is
-held_counted : (op : SpBinary) (n words : ℕ) → (if is_immediate op (constant n) then 0 else words) ≤ (if nat_lt n (held_below op) then 0 else words)
+held_counted : (op : SpBinary) (n words : ℕ) → (if is_immediate op (constant n) then 0 else words)
+    ≤ (if nat_lt n (held_below op) then 0 else words)
 held_counted op n words = grind (arith, nat_tests)
 
-operand_counted : (op : SpBinary) (b : PlainSp) (words : ℕ) → (if is_immediate op b then 0 else words) ≤ (if is_held op b then 0 else words)
+operand_counted : (op : SpBinary) (b : PlainSp) (words : ℕ) → (if is_immediate op b then 0 else words)
+    ≤ (if is_held op b then 0 else words)
 operand_counted op (constant n) words = held_counted op n words
 operand_counted op _ words = omega arith
 
 -- of two operands, those that are worked out
-two_operands : (homes : Homes) (a b : PlainSp) (rd : ℕ) (held less : Bool) → parts_room (operand_code homes a rd) ≤ expr_cost a → parts_room (operand_code homes b rd) ≤ expr_cost b
-    → parts_room (operand_code homes a (rd + 1)) ≤ expr_cost a → parts_room (operand_code homes b (rd + 1)) ≤ expr_cost b
-    → parts_room (if held then operand_code homes a rd else if less then joined (operand_code homes b rd) (operand_code homes a (rd + 1)) else joined (operand_code homes a rd) (operand_code homes b (rd + 1)))
+two_operands : (homes : Homes) (a b : PlainSp) (rd : ℕ) (held less : Bool) → parts_room (operand_code homes a rd)
+    ≤ expr_cost a → parts_room (operand_code homes b rd) ≤ expr_cost b
+    → parts_room (operand_code homes a (rd + 1)) ≤ expr_cost a → parts_room (operand_code homes b (rd + 1))
+    ≤ expr_cost b
+    → parts_room (if held then operand_code homes a rd else if less then joined (operand_code homes b rd)
+    (operand_code homes a (rd + 1)) else joined (operand_code homes a rd) (operand_code homes b (rd + 1)))
     ≤ expr_cost a + (if held then 0 else expr_cost b)
 two_operands homes a b rd true less ha hb na nb = omega (arith, ha)
-two_operands homes a b rd false true ha hb na nb = omega (arith, hb, na, room_both (operand_code homes b rd) (operand_code homes a (rd + 1)))
-two_operands homes a b rd false false ha hb na nb = omega (arith, ha, nb, room_both (operand_code homes a rd) (operand_code homes b (rd + 1)))
+two_operands homes a b rd false true ha hb na nb =
+    omega (arith, hb, na, room_both (operand_code homes b rd) (operand_code homes a (rd + 1)))
+two_operands homes a b rd false false ha hb na nb =
+    omega (arith, ha, nb, room_both (operand_code homes a rd) (operand_code homes b (rd + 1)))
 
 -- and the operator
 two_room : (homes : Homes) (op : SpBinary) (a b : PlainSp) (rd to : ℕ) (held less : Bool)
-    → parts_room (if held then one (straight (held_code op to (value_at homes a rd) (number_of b))) else if less then binary_code op to (value_at homes a (rd + 1)) (value_at homes b rd) else binary_code op to (value_at homes a rd) (value_at homes b (rd + 1)))
+    → parts_room (if held then one (straight (held_code op to (value_at homes a rd) (number_of b))) else if less then
+    binary_code op to (value_at homes a (rd + 1)) (value_at homes b rd) else binary_code op to (value_at homes a rd)
+    (value_at homes b (rd + 1)))
     ≤ binary_cost op
 two_room homes op a b rd to true less = omega (arith, held_room op to (value_at homes a rd) (number_of b))
 two_room homes op a b rd to false true = binary_room op to (value_at homes a (rd + 1)) (value_at homes b rd)
 two_room homes op a b rd to false false = binary_room op to (value_at homes a rd) (value_at homes b (rd + 1))
 
-operand_room : (homes : Homes) (e : PlainSp) (rd : ℕ) → parts_room (operands_code homes e rd) + parts_room (value_code homes e rd rd) ≤ expr_cost e → parts_room (operand_code homes e rd) ≤ expr_cost e
-operand_room homes e rd both = operand_is (λ ps. parts_room ps ≤ expr_cost e) homes e rd (omega arith) (omega (arith, both, room_both (operands_code homes e rd) (value_code homes e rd rd)))
+operand_room : (homes : Homes) (e : PlainSp) (rd : ℕ) → parts_room (operands_code homes e rd)
+    + parts_room (value_code homes e rd rd) ≤ expr_cost e → parts_room (operand_code homes e rd) ≤ expr_cost e
+operand_room homes e rd both = operand_is (λ ps. parts_room ps ≤ expr_cost e) homes e rd (omega arith)
+    (omega (arith, both, room_both (operands_code homes e rd) (value_code homes e rd rd)))
 
-value_room : (homes : Homes) (e : PlainSp) (rd to : ℕ) → parts_room (operands_code homes e rd) + parts_room (value_code homes e rd to) ≤ expr_cost e
+value_room : (homes : Homes) (e : PlainSp) (rd to : ℕ) → parts_room (operands_code homes e rd)
+    + parts_room (value_code homes e rd to) ≤ expr_cost e
 value_room homes (constant v) rd to = omega (arith, number_room to v)
-value_room homes (frame_word slot) rd to = omega (arith, word_code_is (λ bs. bundles_room bs ≤ 2) homes to slot (λ p. omega arith) (omega (arith, read_words homes.first to slot)))
+value_room homes (frame_word slot) rd to = omega (
+  arith,
+  word_code_is (λ bs. bundles_room bs ≤ 2) homes to slot
+      (λ p. omega arith) (omega (arith, read_words homes.first to slot)),
+)
 value_room homes (cell_word cell) rd to = omega (arith, number_words to (address_of cell.region cell.word))
 value_room homes (array_word array index) rd to =
     omega (
@@ -164,22 +184,31 @@ value_room homes (array_word array index) rd to =
       scaled_words array to (value_at homes index rd),
       operand_room homes index rd (value_room homes index rd rd),
     )
-value_room homes (before_one op of) rd to = omega (arith, operand_room homes of rd (value_room homes of rd rd), unary_room op to (value_at homes of rd))
+value_room homes (before_one op of) rd to =
+    omega (arith, operand_room homes of rd (value_room homes of rd rd), unary_room op to (value_at homes of rd))
 value_room homes (between_two op a b) rd to =
     omega (
       arith,
       operand_counted op b (expr_cost b),
-      two_operands homes a b rd (is_immediate op b) (nat_lt (need a) (need b)) (operand_room homes a rd (value_room homes a rd rd)) (operand_room homes b rd (value_room homes b rd rd)) (operand_room homes a (rd + 1) (value_room homes a (rd + 1) (rd + 1)))
+      two_operands homes a b rd (is_immediate op b) (nat_lt (need a) (need b))
+          (operand_room homes a rd (value_room homes a rd rd)) (operand_room homes b rd (value_room homes b rd rd))
+          (operand_room homes a (rd + 1) (value_room homes a (rd + 1) (rd + 1)))
           (operand_room homes b (rd + 1) (value_room homes b (rd + 1) (rd + 1))),
       two_room homes op a b rd to (is_immediate op b) (nat_lt (need a) (need b)),
     )
 
 pub expr_room : (homes : Homes) (e : PlainSp) (rd to : ℕ) → parts_room (expr_to homes e rd to) ≤ expr_cost e
-expr_room homes e rd to = omega (arith, room_both (operands_code homes e rd) (value_code homes e rd to), value_room homes e rd to)
+expr_room homes e rd to =
+    omega (arith, room_both (operands_code homes e rd) (value_code homes e rd to), value_room homes e rd to)
 
 args_room : (homes : Homes) (args : List PlainSp) (rd : ℕ) → parts_room (args_code homes args rd) ≤ args_cost args
 args_room homes [] rd = omega arith
-args_room homes (e ∷ args) rd = omega (arith, room_both (expr_code homes e rd) (args_code homes args (rd + 1)), expr_room homes e rd rd, args_room homes args (rd + 1))
+args_room homes (e ∷ args) rd = omega (
+  arith,
+  room_both (expr_code homes e rd) (args_code homes args (rd + 1)),
+  expr_room homes e rd rd,
+  args_room homes args (rd + 1),
+)
 
 -- ---- truths
 
@@ -200,7 +229,9 @@ not_saved : (op : SpUnary) → 1 + saved_by (is_not op) ≤ unary_cost op
 not_saved op = grind arith
 
 two_tests : (homes : Homes) (op : SpBinary) (a b : PlainSp) (held less : Bool)
-    → bundles_room (if held then by_number (cmp_of op) (value_at homes a FIRST) (number_of b) else if less then by_two (cmp_of op) op (value_at homes a (FIRST + 1)) (value_at homes b FIRST) else by_two (cmp_of op) op (value_at homes a FIRST) (value_at homes b (FIRST + 1)))
+    → bundles_room (if held then by_number (cmp_of op) (value_at homes a FIRST) (number_of b) else if less then by_two
+    (cmp_of op) op (value_at homes a (FIRST + 1)) (value_at homes b FIRST) else by_two (cmp_of op) op
+    (value_at homes a FIRST) (value_at homes b (FIRST + 1)))
     + op_saved op ≤ binary_cost op
 two_tests homes op a b true less = number_test op (value_at homes a FIRST) (number_of b)
 two_tests homes op a b false true = test_room op (value_at homes a (FIRST + 1)) (value_at homes b FIRST)
@@ -213,14 +244,22 @@ tested_room : (homes : Homes) (e : PlainSp) → parts_room (tested_code homes e)
 tested_room homes (constant n) = some_cost (constant n)
 tested_room homes (frame_word slot) = omega arith
 tested_room homes (cell_word cell) = omega arith
-tested_room homes (array_word array index) = omega (arith, room_both (operand_code homes index FIRST) (one (straight [])), operand_most homes index FIRST)
-tested_room homes (before_one op of) = omega (arith, room_both (operand_code homes of FIRST) (one (straight (test_of homes (before_one op of)))), operand_most homes of FIRST, not_saved op)
+tested_room homes (array_word array index) =
+    omega (arith, room_both (operand_code homes index FIRST) (one (straight [])), operand_most homes index FIRST)
+tested_room homes (before_one op of) = omega (
+  arith,
+  room_both (operand_code homes of FIRST)
+      (one (straight (test_of homes (before_one op of)))),
+  operand_most homes of FIRST,
+  not_saved op,
+)
 tested_room homes (between_two op a b) =
     omega (
       arith,
       room_both (operands_code homes (between_two op a b) FIRST) (one (straight (test_of homes (between_two op a b)))),
       operand_counted op b (expr_cost b),
-      two_operands homes a b FIRST (is_immediate op b) (nat_lt (need a) (need b)) (operand_most homes a FIRST) (operand_most homes b FIRST) (operand_most homes a (FIRST + 1)) (operand_most homes b (FIRST + 1)),
+      two_operands homes a b FIRST (is_immediate op b) (nat_lt (need a) (need b)) (operand_most homes a FIRST)
+          (operand_most homes b FIRST) (operand_most homes a (FIRST + 1)) (operand_most homes b (FIRST + 1)),
       two_tests homes op a b (is_immediate op b) (nat_lt (need a) (need b)),
     )
 
@@ -229,54 +268,73 @@ saved_most true = omega arith
 saved_most false = omega arith
 
 -- where truths are joined there is no condition
-no_condition : (flags : Flags) (op : SpBinary) (a b : PlainSp) → joins flags op a b ≡ true → is_condition (between_two op a b) ≡ false
+no_condition : (flags : Flags) (op : SpBinary) (a b : PlainSp) → joins flags op a b ≡ true
+    → is_condition (between_two op a b) ≡ false
 no_condition flags op a b is = by (is_some (cmp_of op) || is_some (both_of op)) refl
   where
     by : (c : Bool) → (is_some (cmp_of op) || is_some (both_of op)) ≡ c → c ≡ false
     by true condition = absurd (true≢false (sym is ∙ no_joins flags op a b condition))
     by false other = refl
 
-both_cost : (op : SpBinary) (a b : PlainSp) → is_some (both_of op) ≡ true → expr_cost a + expr_cost b + 2 ≤ expr_cost (between_two op a b)
+both_cost : (op : SpBinary) (a b : PlainSp) → is_some (both_of op) ≡ true → expr_cost a + expr_cost b + 2
+    ≤ expr_cost (between_two op a b)
 both_cost op a b is = grind (arith, is)
 
 word_cost : (e : PlainSp) → is_frame_word e ≡ true → 2 ≤ expr_cost e
 word_cost (frame_word slot) is = omega arith
 word_cost _ is = absurd (true≢false (sym is))
 
-unless_room : (most : ℕ) (o : Option ℕ) (code : PlainParts) → parts_room code ≤ most → parts_room (unless_stands o code) ≤ most
+unless_room : (most : ℕ) (o : Option ℕ) (code : PlainParts) → parts_room code ≤ most
+    → parts_room (unless_stands o code) ≤ most
 unless_room most None code few = few
 unless_room most (Some p) code few = omega arith
 
 -- the second of two truths that are joined, which the cost may count as held
 second_room : (homes : Homes) (op : SpBinary) (b : PlainSp) → parts_room (truth_code homes b) ≤ expr_cost b
-    → parts_room (unless_stands (flag_at homes.flags b) (truth_code homes b)) ≤ 1 + (if is_held op b then 0 else expr_cost b)
-second_room homes op (constant n) few = omega (arith, unless_room 1 (flag_at homes.flags (constant n)) (truth_code homes (constant n)) (omega arith))
-second_room homes op (frame_word slot) few = omega (arith, unless_room _ (flag_at homes.flags (frame_word slot)) (truth_code homes (frame_word slot)) few)
-second_room homes op (between_two f c d) few = omega (arith, unless_room _ (flag_at homes.flags (between_two f c d)) (truth_code homes (between_two f c d)) few)
+    → parts_room (unless_stands (flag_at homes.flags b) (truth_code homes b)) ≤ 1
+    + (if is_held op b then 0 else expr_cost b)
+second_room homes op (constant n) few =
+    omega (arith, unless_room 1 (flag_at homes.flags (constant n)) (truth_code homes (constant n)) (omega arith))
+second_room homes op (frame_word slot) few =
+    omega (arith, unless_room _ (flag_at homes.flags (frame_word slot)) (truth_code homes (frame_word slot)) few)
+second_room homes op (between_two f c d) few =
+    omega (arith, unless_room _ (flag_at homes.flags (between_two f c d)) (truth_code homes (between_two f c d)) few)
 second_room homes op _ few = omega (arith, few)
 
 -- the second one, where the lowest bit of the first is sought
-second_saved : (homes : Homes) (op : SpBinary) (b : PlainSp) → parts_room (truth_code homes b) + saved_by (is_condition b) ≤ expr_cost b → (is_some (word_flag homes.flags b) || is_condition b) ≡ true
-    → parts_room (unless_stands (flag_at homes.flags b) (truth_code homes b)) + 2 ≤ (if is_held op b then 0 else expr_cost b)
+second_saved : (homes : Homes) (op : SpBinary) (b : PlainSp) → parts_room (truth_code homes b)
+    + saved_by (is_condition b) ≤ expr_cost b → (is_some (word_flag homes.flags b) || is_condition b) ≡ true
+    → parts_room (unless_stands (flag_at homes.flags b) (truth_code homes b)) + 2
+    ≤ (if is_held op b then 0 else expr_cost b)
 second_saved homes op (constant n) saved is = absurd (true≢false (sym is))
 second_saved homes op (frame_word slot) saved is = by (flag_of homes.flags slot) is
   where
-    by : (o : Option ℕ) → (is_some o || false) ≡ true → parts_room (unless_stands o (truth_code homes (frame_word slot))) + 2 ≤ 2
+    by : (o : Option ℕ) → (is_some o || false) ≡ true
+        → parts_room (unless_stands o (truth_code homes (frame_word slot))) + 2 ≤ 2
     by None is = absurd (true≢false (sym is))
     by (Some p) is = omega arith
 second_saved homes op (cell_word cell) saved is = absurd (true≢false (sym is))
 second_saved homes op (array_word array index) saved is = absurd (true≢false (sym is))
 second_saved homes op (before_one f of) saved is =
-    let few = subst (λ c. parts_room (truth_code homes (before_one f of)) + saved_by c ≤ expr_cost (before_one f of)) is saved in
+    let few = subst (λ c. parts_room (truth_code homes (before_one f of)) + saved_by c ≤ expr_cost (before_one f of)) is
+    saved in
     omega (arith, few)
 second_saved homes op (between_two f c d) saved is =
-    let few = subst (λ c'. parts_room (truth_code homes (between_two f c d)) + saved_by c' ≤ expr_cost (between_two f c d)) is saved in
-    omega (arith, few, unless_room (parts_room (truth_code homes (between_two f c d))) (flag_at homes.flags (between_two f c d)) (truth_code homes (between_two f c d)) (omega arith))
+    let few = subst (λ c'. parts_room (truth_code homes (between_two f c d)) + saved_by c'
+    ≤ expr_cost (between_two f c d)) is saved in
+    omega (
+      arith,
+      few,
+      unless_room (parts_room (truth_code homes (between_two f c d)))
+          (flag_at homes.flags (between_two f c d)) (truth_code homes (between_two f c d)) (omega arith),
+    )
 
 -- both operands of two truths that are joined
-joined_room : (homes : Homes) (op : SpBinary) (a b : PlainSp) → joins homes.flags op a b ≡ true → parts_room (truth_code homes b) + saved_by (is_condition b) ≤ expr_cost b
+joined_room : (homes : Homes) (op : SpBinary) (a b : PlainSp) → joins homes.flags op a b ≡ true
+    → parts_room (truth_code homes b) + saved_by (is_condition b) ≤ expr_cost b
     → parts_room (operands_stood homes a b (truth_code homes b)) + 1 ≤ expr_cost (between_two op a b)
-joined_room homes op a b joins_them few = by (flag_at homes.flags a) (and_parts (is_some (bits_of op)) (is_some (flag_at homes.flags a) || seeks homes.flags op a b) joins_them).1
+joined_room homes op a b joins_them few = by (flag_at homes.flags a) (and_parts (is_some (bits_of op))
+    (is_some (flag_at homes.flags a) || seeks homes.flags op a b) joins_them).1
   where
     second : PlainParts
     second = unless_stands (flag_at homes.flags b) (truth_code homes b)
@@ -284,16 +342,32 @@ joined_room homes op a b joins_them few = by (flag_at homes.flags a) (and_parts 
     bits : PlainParts
     bits = one (straight (bit_sought homes.first (slot_number a)))
 
-    by : (o : Option ℕ) → (is_some o || seeks homes.flags op a b) ≡ true → parts_room (joined second (unless_stands o bits)) + 1 ≤ expr_cost (between_two op a b)
-    by (Some p) is = omega (arith, room_both second no_part, second_room homes op b (omega (arith, few)), some_cost a, some_binary op)
+    by : (o : Option ℕ) → (is_some o || seeks homes.flags op a b) ≡ true
+        → parts_room (joined second (unless_stands o bits)) + 1 ≤ expr_cost (between_two op a b)
+    by (Some p) is = omega (
+      arith,
+      room_both second no_part,
+      second_room homes op b (omega (arith, few)),
+      some_cost a,
+      some_binary op,
+    )
     by None is =
         let masked = and_parts (is_masking op) _ is in
         let parts = and_parts (is_frame_word a) _ masked.1 in
-        omega (arith, room_both second bits, second_saved homes op b few parts.1, word_cost a parts.0, some_binary op, fetch_words homes.first (slot_number a))
+        omega (
+          arith,
+          room_both second bits,
+          second_saved homes op b few parts.1,
+          word_cost a parts.0,
+          some_binary op,
+          fetch_words homes.first (slot_number a),
+        )
 
 -- two conditions, or one
-unjoined_room : (homes : Homes) (op : SpBinary) (a b : PlainSp) → parts_room (truth_code homes a) + saved_by (is_condition a) ≤ expr_cost a
-    → parts_room (unjoined_code homes op a b (truth_code homes a)) + saved_by (is_condition (between_two op a b)) ≤ expr_cost (between_two op a b)
+unjoined_room : (homes : Homes) (op : SpBinary) (a b : PlainSp) → parts_room (truth_code homes a)
+    + saved_by (is_condition a) ≤ expr_cost a
+    → parts_room (unjoined_code homes op a b (truth_code homes a)) + saved_by (is_condition (between_two op a b))
+    ≤ expr_cost (between_two op a b)
 unjoined_room homes op a b few = by (pairs op a b) refl
   where
     kept : PlainParts
@@ -305,13 +379,16 @@ unjoined_room homes op a b few = by (pairs op a b) refl
     join_them : PlainParts
     join_them = one (straight (combine (func_in (both_of op)) TEST SECOND TEST ∷ []))
 
-    by : (c : Bool) → pairs op a b ≡ c → parts_room (if c then paired_code homes op b (truth_code homes a) else tested_code homes (between_two op a b)) + saved_by (is_condition (between_two op a b)) ≤ expr_cost (between_two op a b)
+    by : (c : Bool) → pairs op a b ≡ c → parts_room (if c then paired_code homes op b (truth_code homes a) else
+        tested_code homes (between_two op a b)) + saved_by (is_condition (between_two op a b))
+        ≤ expr_cost (between_two op a b)
     by true is =
         let x = and_parts (is_some (both_of op)) (is_condition a && (is_condition b && spares_second b)) is in
         let y = and_parts (is_condition a) (is_condition b && spares_second b) x.1 in
         let z = and_parts (is_condition b) (spares_second b) y.1 in
         let first = subst (λ c. parts_room (truth_code homes a) + saved_by c ≤ expr_cost a) y.0 few in
-        let second = subst (λ c. parts_room (tested_code homes b) + saved_by c ≤ expr_cost b) z.0 (tested_room homes b) in
+        let second =
+        subst (λ c. parts_room (tested_code homes b) + saved_by c ≤ expr_cost b) z.0 (tested_room homes b) in
         let most : saved_by (is_condition (between_two op a b)) ≤ 2 = saved_most (is_condition (between_two op a b)) in
         omega (
           arith,
@@ -331,14 +408,19 @@ truth_saved homes (frame_word slot) = tested_room homes (frame_word slot)
 truth_saved homes (cell_word cell) = tested_room homes (cell_word cell)
 truth_saved homes (array_word array index) = tested_room homes (array_word array index)
 truth_saved homes (before_one op of) = tested_room homes (before_one op of)
-truth_saved homes (between_two op a b) = by (joins homes.flags op a b) refl (λ is. joined_room homes op a b is (truth_saved homes b)) (unjoined_room homes op a b (truth_saved homes a))
+truth_saved homes (between_two op a b) = by (joins homes.flags op a b) refl (λ is. joined_room homes op a b is
+    (truth_saved homes b)) (unjoined_room homes op a b (truth_saved homes a))
   where
     both_code : PlainParts
     both_code = operands_stood homes a b (truth_code homes b)
 
-    by : (c : Bool) → joins homes.flags op a b ≡ c → (c ≡ true → parts_room both_code + 1 ≤ expr_cost (between_two op a b))
-        → parts_room (unjoined_code homes op a b (truth_code homes a)) + saved_by (is_condition (between_two op a b)) ≤ expr_cost (between_two op a b)
-        → parts_room (if c then joined both_code (one (straight (join homes.flags TEST op a b ∷ []))) else unjoined_code homes op a b (truth_code homes a)) + saved_by (is_condition (between_two op a b)) ≤ expr_cost (between_two op a b)
+    by : (c : Bool) → joins homes.flags op a b ≡ c
+        → (c ≡ true → parts_room both_code + 1 ≤ expr_cost (between_two op a b))
+        → parts_room (unjoined_code homes op a b (truth_code homes a)) + saved_by (is_condition (between_two op a b))
+        ≤ expr_cost (between_two op a b)
+        → parts_room (if c then joined both_code (one (straight (join homes.flags TEST op a b ∷ []))) else unjoined_code
+        homes op a b (truth_code homes a)) + saved_by (is_condition (between_two op a b))
+        ≤ expr_cost (between_two op a b)
     by true is few other =
         let none = ap saved_by (no_condition homes.flags op a b is) in
         omega (arith, none, few refl, room_both both_code (one (straight (join homes.flags TEST op a b ∷ []))))
@@ -350,9 +432,12 @@ before_room homes (frame_word slot) = omega (arith, tested_room homes (frame_wor
 before_room homes (cell_word cell) = omega (arith, tested_room homes (cell_word cell))
 before_room homes (array_word array index) = omega (arith, tested_room homes (array_word array index))
 before_room homes (before_one op of) = omega (arith, tested_room homes (before_one op of))
-before_room homes (between_two op a b) = by (joins homes.flags op a b) (λ is. joined_room homes op a b is (truth_saved homes b))
+before_room homes (between_two op a b) =
+    by (joins homes.flags op a b) (λ is. joined_room homes op a b is (truth_saved homes b))
   where
-    by : (c : Bool) → (c ≡ true → parts_room (operands_stood homes a b (truth_code homes b)) + 1 ≤ expr_cost (between_two op a b)) → parts_room (if c then operands_stood homes a b (truth_code homes b) else unjoined_code homes op a b (truth_code homes a)) ≤ expr_cost (between_two op a b)
+    by : (c : Bool) → (c ≡ true → parts_room (operands_stood homes a b (truth_code homes b)) + 1
+        ≤ expr_cost (between_two op a b)) → parts_room (if c then operands_stood homes a b (truth_code homes b) else
+        unjoined_code homes op a b (truth_code homes a)) ≤ expr_cost (between_two op a b)
     by true few = omega (arith, few refl)
     by false few = omega (arith, unjoined_room homes op a b (truth_saved homes a))
 
@@ -368,64 +453,127 @@ flag_room : (homes : Homes) (to : ℕ) (e : PlainSp) → parts_room (flag_code h
 flag_room homes to e = by (flag_at homes.flags e)
   where
     by : (o : Option ℕ) → parts_room (flag_by o homes to e) ≤ 1 + expr_cost e
-    by None = omega (arith, room_both (before_flag homes e) (one (straight (flag_set homes.flags to e ∷ []))), before_room homes e, set_room homes.flags to e)
+    by None = omega (
+      arith,
+      room_both (before_flag homes e) (one (straight (flag_set homes.flags to e ∷ []))),
+      before_room homes e,
+      set_room homes.flags to e,
+    )
     by (Some p) = omega arith
 
 -- ---- statements
 
-cell_room : (homes : Homes) (mask : ℕ) (r : Region) (word : ℕ) → bundles_room (cell_write homes mask (record { region = r; word = word })) ≤ 7
-cell_room homes mask r word = by r (seek_words homes mask) (match_words homes mask) (number_words SPARE (address_of r word))
+cell_room : (homes : Homes) (mask : ℕ) (r : Region) (word : ℕ)
+    → bundles_room (cell_write homes mask (record { region = r; word = word })) ≤ 7
+cell_room homes mask r word =
+    by r (seek_words homes mask) (match_words homes mask) (number_words SPARE (address_of r word))
   where
-    by : (r : Region) → bundle_room (seek_word homes mask) ≤ 2 → bundle_room (match_word homes mask) ≤ 1 → bundle_room (set_number SPARE (address_of r word)) ≤ 2 → bundles_room (cell_write homes mask (record { region = r; word = word })) ≤ 7
+    by : (r : Region) → bundle_room (seek_word homes mask) ≤ 2 → bundle_room (match_word homes mask) ≤ 1
+        → bundle_room (set_number SPARE (address_of r word)) ≤ 2
+        → bundles_room (cell_write homes mask (record { region = r; word = word })) ≤ 7
     by region.Scratch read test address = omega (arith, read, test, address)
     by _ read test address = omega (arith, read, test, address)
 
-element_room : (homes : Homes) (mask : ℕ) (r : Region) (first length : ℕ) → bundles_room (element_write homes mask (record { region = r; first = first; length = length })) ≤ 12
+element_room : (homes : Homes) (mask : ℕ) (r : Region) (first length : ℕ)
+    → bundles_room (element_write homes mask (record { region = r; first = first; length = length })) ≤ 12
 element_room homes mask r first length =
     let a : SpArray = record { region = r; first = first; length = length } in
-    by r (seek_words homes mask) (match_words homes mask) (spare_words (nat_lt length 32) length) (below_words SECOND (FIRST + 1) length) (spare_words (has_offset a) (address_of r first)) (scaled_words a (FIRST + 1) (FIRST + 1))
+    by r (seek_words homes mask) (match_words homes mask) (spare_words (nat_lt length 32) length)
+    (below_words SECOND (FIRST + 1) length) (spare_words (has_offset a) (address_of r first))
+    (scaled_words a (FIRST + 1) (FIRST + 1))
   where
-    by : (r : Region) → bundle_room (seek_word homes mask) ≤ 2 → bundle_room (match_word homes mask) ≤ 1 → bundle_room (under always (length_op length)) ≤ 2 → bundle_room (under always (below_op SECOND (FIRST + 1) length)) ≤ 1
-        → bundle_room (under always (base_op (record { region = r; first = first; length = length }))) ≤ 2 → bundle_room (under always (scaled_op (record { region = r; first = first; length = length }) (FIRST + 1) (FIRST + 1))) ≤ 1
+    by : (r : Region) → bundle_room (seek_word homes mask) ≤ 2 → bundle_room (match_word homes mask) ≤ 1
+        → bundle_room (under always (length_op length)) ≤ 2
+        → bundle_room (under always (below_op SECOND (FIRST + 1) length)) ≤ 1
+        → bundle_room (under always (base_op (record { region = r; first = first; length = length }))) ≤ 2
+        → bundle_room (under always (scaled_op (record { region = r; first = first; length = length }) (FIRST + 1)
+        (FIRST + 1))) ≤ 1
         → bundles_room (element_write homes mask (record { region = r; first = first; length = length })) ≤ 12
     by region.Scratch read test size below base scaled = omega (arith, read, test, size, below, base, scaled)
     by _ read test size below base scaled = omega (arith, read, test, size, below, base, scaled)
 
-target_room : (homes : Homes) (mask : ℕ) (target : PlainSpTarget) → parts_room (target_write homes mask target) ≤ target_cost target
-target_room homes mask (to_slot slot) = omega (arith, seek_words homes mask, match_words homes mask, set_words homes.first (where_so (told_at homes mask)) slot FIRST)
+target_room : (homes : Homes) (mask : ℕ) (target : PlainSpTarget) → parts_room (target_write homes mask target)
+    ≤ target_cost target
+target_room homes mask (to_slot slot) = omega (
+  arith,
+  seek_words homes mask,
+  match_words homes mask,
+  set_words homes.first (where_so (told_at homes mask)) slot FIRST,
+)
 target_room homes mask (to_cell cell) = omega (arith, cell_room homes mask cell.region cell.word)
 target_room homes mask (to_array array index) =
-    omega (arith, room_both (expr_code homes index 4) (one (straight (element_write homes mask array))), expr_room homes index 4 4, element_room homes mask array.region array.first array.length)
+    omega (
+      arith,
+      room_both (expr_code homes index 4) (one (straight (element_write homes mask array))),
+      expr_room homes index 4 4,
+      element_room homes mask array.region array.first array.length,
+    )
 
 -- an instruction takes as many words under a mask as under none
-guarded_room : (homes : Homes) (mask : ℕ) (e : PlainSp) (to : ℕ) (op : Op) → Gives (value_code homes e FIRST to) op → parts_room (guarded_code homes mask e op) ≤ 4 + expr_cost e
+guarded_room : (homes : Homes) (mask : ℕ) (e : PlainSp) (to : ℕ) (op : Op) → Gives (value_code homes e FIRST to) op
+    → parts_room (guarded_code homes mask e op) ≤ 4 + expr_cost e
 guarded_room homes mask e to op gives =
     let bundles = mask_test homes mask ++ under (where_so (told_at homes mask)) op ∷ [] in
     let value = ap parts_room gives.is in
-    omega (arith, room_both (operands_code homes e FIRST) (one (straight bundles)), value_room homes e FIRST to, value, seek_words homes mask, match_words homes mask)
+    omega (
+      arith,
+      room_both (operands_code homes e FIRST) (one (straight bundles)),
+      value_room homes e FIRST to,
+      value,
+      seek_words homes mask,
+      match_words homes mask,
+    )
 
 handed_room : (homes : Homes) (mask : ℕ) → bundles_room (mask_handed homes mask) ≤ 3
-handed_room homes mask = handed_is (λ bs. bundles_room bs ≤ 3) homes mask (λ p is. omega arith) (λ none. omega (arith, read_words homes.first MASK mask))
+handed_room homes mask = handed_is (λ bs. bundles_room bs ≤ 3) homes mask (λ p is. omega arith)
+    (λ none. omega (arith, read_words homes.first MASK mask))
 
-call_room : (homes : Homes) (frame mask k : ℕ) (result : Option ℕ) → parts_room (call_code homes frame mask k result) ≤ 12
+call_room : (homes : Homes) (frame mask k : ℕ) (result : Option ℕ) → parts_room (call_code homes frame mask k result)
+    ≤ 12
 call_room homes frame mask k None = omega (arith, handed_room homes mask)
-call_room homes frame mask k (Some slot) = omega (arith, handed_room homes mask, seek_words homes mask, match_words homes mask, set_words homes.first (where_so (told_at homes mask)) slot RESULT)
+call_room homes frame mask k (Some slot) = omega (
+  arith,
+  handed_room homes mask,
+  seek_words homes mask,
+  match_words homes mask,
+  set_words homes.first (where_so (told_at homes mask)) slot RESULT,
+)
 
 mutual
-  stmt_room : (homes : Homes) (frame counter : ℕ) (t : PlainStmt) → parts_room (stmt_code homes frame counter t) ≤ stmt_cost t
+  stmt_room : (homes : Homes) (frame counter : ℕ) (t : PlainStmt) → parts_room (stmt_code homes frame counter t)
+      ≤ stmt_cost t
   stmt_room homes frame counter (masks slot e) =
-      mask_is (λ ps. parts_room ps ≤ 1 + expr_cost e) homes slot e (λ p is. flag_room homes p e) (λ plain here. omega (arith, expr_room homes e 3 (homes.first + slot)))
-      (λ plain there. omega (arith, room_both (expr_code homes e 3) (slot_set homes.first slot), expr_room homes e 3 3, set_words homes.first always slot FIRST))
+      mask_is (λ ps. parts_room ps ≤ 1 + expr_cost e) homes slot e (λ p is. flag_room homes p e)
+      (λ plain here. omega (arith, expr_room homes e 3 (homes.first + slot)))
+      (λ plain there. omega (
+        arith,
+        room_both (expr_code homes e 3) (slot_set homes.first slot),
+        expr_room homes e 3 3,
+        set_words homes.first always slot FIRST,
+      ))
   stmt_room homes frame counter (writes mask target e) =
-      write_is (λ ps. parts_room ps ≤ target_cost target + expr_cost e) homes mask target e (omega (arith, room_both (expr_code homes e 3) (target_write homes mask target), expr_room homes e 3 3, target_room homes mask target))
-      (λ slot op is gives. subst (λ t. parts_room (guarded_code homes mask e op) ≤ target_cost t + expr_cost e) (sym is) (guarded_room homes mask e (homes.first + slot) op gives))
+      write_is (λ ps. parts_room ps ≤ target_cost target + expr_cost e) homes mask target e
+      (omega (
+        arith,
+        room_both (expr_code homes e 3) (target_write homes mask target),
+        expr_room homes e 3 3,
+        target_room homes mask target,
+      ))
+      (λ slot op is gives. subst (λ t. parts_room (guarded_code homes mask e op) ≤ target_cost t + expr_cost e) (sym is)
+      (guarded_room homes mask e (homes.first + slot) op gives))
   stmt_room homes frame counter (calls mask k args result) =
-      omega (arith, room_both (args_code homes args 3) (call_code homes frame mask k result), args_room homes args 3, call_room homes frame mask k result)
+      omega (
+        arith,
+        room_both (args_code homes args 3) (call_code homes frame mask k result),
+        args_room homes args 3,
+        call_room homes frame mask k result,
+      )
   stmt_room homes frame counter (transfers mask core source target count) =
       let sent = one (straight (send_code homes mask core)) in
       omega (
         arith,
-        room_both (expr_code homes source 3) (joined (expr_code homes target 4) (joined (expr_code homes count 5) sent)),
+        room_both (expr_code homes source 3) (joined (expr_code homes target 4)
+            (joined (expr_code homes count 5) sent)),
         room_both (expr_code homes target 4) (joined (expr_code homes count 5) sent),
         room_both (expr_code homes count 5) sent,
         expr_room homes source 3 3,
@@ -434,19 +582,43 @@ mutual
         seek_words homes mask,
         match_words homes mask,
       )
-  stmt_room homes frame counter (overruns mask e) = omega (arith, room_both (expr_code homes e 3) (one (straight (overrun_code homes mask))), expr_room homes e 3 3, seek_words homes mask, match_words homes mask)
-  stmt_room homes frame counter (iterations count body) = omega (arith, stmts_room homes frame (counter - 1) body, number_words (fetched_at homes.first counter) count, fetch_words homes.first counter, keep_words homes.first counter)
+  stmt_room homes frame counter (overruns mask e) = omega (
+    arith,
+    room_both (expr_code homes e 3)
+        (one (straight (overrun_code homes mask))),
+    expr_room homes e 3 3,
+    seek_words homes mask,
+    match_words homes mask,
+  )
+  stmt_room homes frame counter (iterations count body) = omega (
+    arith,
+    stmts_room homes frame (counter - 1) body,
+    number_words (fetched_at homes.first counter) count,
+    fetch_words homes.first counter,
+    keep_words homes.first counter,
+  )
 
-  stmts_room : (homes : Homes) (frame counter : ℕ) (ts : PlainStmts) → parts_room (stmts_code homes frame counter ts) ≤ stmts_cost ts
+  stmts_room : (homes : Homes) (frame counter : ℕ) (ts : PlainStmts) → parts_room (stmts_code homes frame counter ts)
+      ≤ stmts_cost ts
   stmts_room homes frame counter no_stmt = omega arith
   stmts_room homes frame counter (stmt t rest) =
-      omega (arith, room_both (stmt_code homes frame counter t) (stmts_code homes frame counter rest), stmt_room homes frame counter t, stmts_room homes frame counter rest)
+      omega (
+        arith,
+        room_both (stmt_code homes frame counter t) (stmts_code homes frame counter rest),
+        stmt_room homes frame counter t,
+        stmts_room homes frame counter rest,
+      )
 
 -- ---- functions
 
 kept_room : (homes n : ℕ) → bundles_room (arguments_kept homes n) ≤ n
 kept_room homes zero = omega arith
-kept_room homes (suc n) = omega (arith, room_append (arguments_kept homes n) (argument_kept homes n), kept_room homes n, set_words homes always n (FIRST + n))
+kept_room homes (suc n) = omega (
+  arith,
+  room_append (arguments_kept homes n) (argument_kept homes n),
+  kept_room homes n,
+  set_words homes always n (FIRST + n),
+)
 
 mask_room : (homes : Homes) (f : PlainFunction) → bundles_room (mask_kept homes f) ≤ 2
 mask_room homes f = by (flag_of homes.flags f.mask)
@@ -472,7 +644,8 @@ one_counted (Some word) n = by (nat_lt word n)
     by true = omega arith
     by false = omega arith
 
-one_more : (p : ℕ) (preds : List ℕ) (word : Option ℕ) (words : List (Option ℕ)) (n : ℕ) → counted (flag_in (p ∷ preds) (word ∷ words)) n ≤ counted (flag_in preds words) n + counted_one word n
+one_more : (p : ℕ) (preds : List ℕ) (word : Option ℕ) (words : List (Option ℕ)) (n : ℕ)
+    → counted (flag_in (p ∷ preds) (word ∷ words)) n ≤ counted (flag_in preds words) n + counted_one word n
 one_more p preds word words zero = omega arith
 one_more p preds None words (suc n) = omega (arith, one_more p preds None words n)
 one_more p preds (Some word) words (suc n) = grind (arith, nat_tests, one_more p preds (Some word) words n)
@@ -482,22 +655,26 @@ most_counted [] words zero = omega arith
 most_counted [] words (suc n) = omega (arith, most_counted [] words n)
 most_counted (p ∷ preds) [] zero = omega arith
 most_counted (p ∷ preds) [] (suc n) = omega (arith, most_counted (p ∷ preds) [] n)
-most_counted (p ∷ preds) (word ∷ words) n = omega (arith, one_more p preds word words n, one_counted word n, most_counted preds words n)
+most_counted (p ∷ preds) (word ∷ words) n =
+    omega (arith, one_more p preds word words n, one_counted word n, most_counted preds words n)
 
 few_flags : (flags : Flags) (n : ℕ) → counted (flag_of flags) n ≤ 4
 unfolding flag_of
 few_flags flags n = most_counted (4 ∷ 5 ∷ 6 ∷ 7 ∷ []) (flag_words flags) n
 
 -- a word is cleared by a bundle where it stands in a predicate or in a register, and none do from the flag on
-cleared_one : (homes : Homes) (n : ℕ) → bundles_room (word_cleared homes n) ≤ (if is_some (flag_of homes.flags n) then 1 else if in_register homes.first n then 1 else 0)
+cleared_one : (homes : Homes) (n : ℕ) → bundles_room (word_cleared homes n) ≤ (if is_some (flag_of homes.flags n) then 1
+    else if in_register homes.first n then 1 else 0)
 unfolding cleared_in
 cleared_one homes n = by (flag_of homes.flags n)
   where
-    plain : (b : Bool) → bundles_room (if b then set_short always (homes.first + n) 0 ∷ [] else []) ≤ (if b then 1 else 0)
+    plain : (b : Bool) → bundles_room (if b then set_short always (homes.first + n) 0 ∷ [] else [])
+        ≤ (if b then 1 else 0)
     plain true = omega arith
     plain false = omega arith
 
-    by : (o : Option ℕ) → bundles_room (cleared_in o homes.first n) ≤ (if is_some o then 1 else if in_register homes.first n then 1 else 0)
+    by : (o : Option ℕ) → bundles_room (cleared_in o homes.first n) ≤ (if is_some o then 1 else if in_register
+        homes.first n then 1 else 0)
     by None = plain (in_register homes.first n)
     by (Some p) = omega arith
 
@@ -512,17 +689,24 @@ cleared_room homes (suc n) =
     let more = room_append (words_cleared homes n) (word_cleared homes n) in
     by (is_some (flag_of homes.flags n)) refl (in_register homes.first n) refl x.few x.least more (cleared_one homes n)
   where
-    by : (c : Bool) → is_some (flag_of homes.flags n) ≡ c → (b : Bool) → in_register homes.first n ≡ b → bundles_room (words_cleared homes n) ≤ n
+    by : (c : Bool) → is_some (flag_of homes.flags n) ≡ c → (b : Bool) → in_register homes.first n ≡ b
+        → bundles_room (words_cleared homes n) ≤ n
         → bundles_room (words_cleared homes n) ≤ (OVERRUN - homes.first) + counted (flag_of homes.flags) n
-        → bundles_room (words_cleared homes n ++ word_cleared homes n) ≡ bundles_room (words_cleared homes n) + bundles_room (word_cleared homes n)
+        → bundles_room (words_cleared homes n ++ word_cleared homes n) ≡ bundles_room (words_cleared homes n)
+        + bundles_room (word_cleared homes n)
         → bundles_room (word_cleared homes n) ≤ (if c then 1 else if b then 1 else 0) → Cleared homes (suc n)
-    by true flagged b is few least more single = let one_more : counted (flag_of homes.flags) (suc n) ≡ counted (flag_of homes.flags) n + 1 = ap (λ x. counted (flag_of homes.flags) n + (if x then 1 else 0)) flagged in
+    by true flagged b is few least more single = let one_more : counted (flag_of homes.flags) (suc n)
+        ≡ counted (flag_of homes.flags) n + 1 =
+        ap (λ x. counted (flag_of homes.flags) n + (if x then 1 else 0)) flagged in
         record { few = omega (arith, few, more, single); least = omega (arith, least, more, single, one_more) }
-    by false plain true is few least more single = let lt = ltb-true (homes.first + n) OVERRUN is in record { few = omega (arith, few, more, single); least = omega (arith, few, more, single, lt) }
-    by false plain false is few least more single = record { few = omega (arith, few, more, single); least = omega (arith, least, more, single) }
+    by false plain true is few least more single = let lt = ltb-true (homes.first + n) OVERRUN is in
+        record { few = omega (arith, few, more, single); least = omega (arith, few, more, single, lt) }
+    by false plain false is few least more single =
+        record { few = omega (arith, few, more, single); least = omega (arith, least, more, single) }
 
 -- with its size word
-pub function_room : (homes : Homes) (fs : List PlainFunction) (n : ℕ) (f : PlainFunction) → tree.function_formed fs n f ≡ true → FIRST ≤ homes.first → 1 + parts_room (function_code homes f) ≤ cost f
+pub function_room : (homes : Homes) (fs : List PlainFunction) (n : ℕ) (f : PlainFunction) → tree.function_formed fs n f
+    ≡ true → FIRST ≤ homes.first → 1 + parts_room (function_code homes f) ≤ cost f
 function_room homes fs n f h before =
     omega (
       arith,
@@ -530,15 +714,27 @@ function_room homes fs n f h before =
       kept_is (λ bs. bundles_room bs ≤ 4) homes.first f (λ has. omega arith) (omega arith),
       mask_room homes f,
       room_append (mask_kept homes f) (place_kept homes.first f),
-      brought_is (λ bs. bundles_room (bs ++ result_given homes.first f) ≤ 10) homes.first f (λ has. omega (arith, freed_is (λ bs. bundles_room bs ≤ 1) (frame_words homes.first f) (omega arith) (omega arith), read_words homes.first RESULT f.result))
-          (omega (arith, freed_is (λ bs. bundles_room bs ≤ 1) (frame_words homes.first f) (omega arith) (omega arith), read_words homes.first RESULT f.result)),
-      room_append (frame_taken homes.first f) (words_cleared homes (tree.slots_of f) ++ (arguments_kept homes.first f.parameters ++ state_kept homes f)),
+      brought_is (λ bs. bundles_room (bs ++ result_given homes.first f) ≤ 10) homes.first f
+          (λ has. omega (
+            arith,
+            freed_is (λ bs. bundles_room bs ≤ 1) (frame_words homes.first f) (omega arith)
+                (omega arith),
+            read_words homes.first RESULT f.result,
+          ))
+          (omega (
+            arith,
+            freed_is (λ bs. bundles_room bs ≤ 1) (frame_words homes.first f) (omega arith) (omega arith),
+            read_words homes.first RESULT f.result,
+          )),
+      room_append (frame_taken homes.first f) (words_cleared homes (tree.slots_of f)
+          ++ (arguments_kept homes.first f.parameters ++ state_kept homes f)),
       (parts_of_function fs n f h).parameters,
       before,
       kept_room homes.first f.parameters,
       (cleared_room homes (tree.slots_of f)).least,
       few_flags homes.flags (tree.slots_of f),
-      room_append (words_cleared homes (tree.slots_of f)) (arguments_kept homes.first f.parameters ++ state_kept homes f),
+      room_append (words_cleared homes (tree.slots_of f)) (arguments_kept homes.first f.parameters
+          ++ state_kept homes f),
       room_append (arguments_kept homes.first f.parameters) (state_kept homes f),
       room_both (body_code homes f) (function_rest homes.first f),
       stmts_room homes (frame_words homes.first f) (first_counter f) (begun_body homes.flags f),

@@ -51,20 +51,26 @@ pub record Spares (ps : PlainParts) : Type 0 where
   pub kept : (f : ℕ → List Step) (m : Run) → IsWhole m → so SECOND (run by_words (parts_trail f ps) m) ≡ so SECOND m
 
 lone : {bs : List Slots} → list_all spares bs ≡ true → Spares (one (straight bs))
-lone {bs} all = record { kept = λ f m whole. ap (so SECOND) (run_lone by_words f bs m) ∙ left_run by_words (predicate SECOND) bs m (omega arith) whole all }
+lone {bs} all = record {
+  kept = λ f m whole. ap (so SECOND) (run_lone by_words f bs m)
+      ∙ left_run by_words (predicate SECOND) bs m (omega arith) whole all;
+}
 
 none : Spares no_part
 none = record { kept = λ f m whole. refl }
 
 both : (x y : PlainParts) → Spares x → Spares y → Spares (joined x y)
 both x y hx hy = record {
-  kept = λ f m whole. ap (so SECOND) (run_joined by_words f x y m) ∙ hy.kept f (run by_words (parts_trail f x) m) (run_whole by_words (parts_trail f x) m whole) ∙ hx.kept f m whole;
+  kept = λ f m whole. ap (so SECOND) (run_joined by_words f x y m) ∙ hy.kept f (run by_words (parts_trail f x) m)
+      (run_whole by_words (parts_trail f x) m whole) ∙ hx.kept f m whole;
 }
 
 -- ---- expressions
 
-both_spare : (op : SpBinary) (a b : PlainSp) → spares_second (between_two op a b) ≡ true → (spares_second a ≡ true) × (spares_second b ≡ true)
-both_spare op a b h = and_parts (spares_second a) (spares_second b) (and_parts (not (is_division op || is_some (both_of op))) (spares_second a && spares_second b) h).1
+both_spare : (op : SpBinary) (a b : PlainSp) → spares_second (between_two op a b) ≡ true → (spares_second a ≡ true)
+    × (spares_second b ≡ true)
+both_spare op a b h = and_parts (spares_second a) (spares_second b)
+    (and_parts (not (is_division op || is_some (both_of op))) (spares_second a && spares_second b) h).1
 
 spares_handed : Handed (λ e rd. spares_second e ≡ true)
 spares_handed = record {
@@ -85,9 +91,11 @@ read_spares homes rd slot = read_is (λ b. spares b ≡ true) homes rd slot refl
 cell_spares : (r : Region) (word rd : ℕ) → list_all spares (cell_code (record { region = r; word = word }) rd) ≡ true
 cell_spares r word rd = let address = number_spares rd (address_of r word) in grind (arith, address)
 
-element_spares : (r : Region) (first length rd ra : ℕ) → list_all spares (element_code (record { region = r; first = first; length = length }) rd ra) ≡ true
+element_spares : (r : Region) (first length rd ra : ℕ)
+    → list_all spares (element_code (record { region = r; first = first; length = length }) rd ra) ≡ true
 element_spares r first length rd ra =
-    let address = address_are (λ b. spares b ≡ true) (record { region = r; first = first; length = length }) TEST rd ra refl (number_spares SPARE) refl refl refl refl in
+    let address = address_are (λ b. spares b ≡ true) (record { region = r; first = first; length = length }) TEST rd ra
+    refl (number_spares SPARE) refl refl refl refl in
     grind (arith, address.length, address.below, address.base, address.scaled)
 
 unary_spares : (op : SpUnary) (rd ra : ℕ) → list_all spares (unary_code op rd ra) ≡ true
@@ -97,7 +105,8 @@ held_spares : (op : SpBinary) (rd ra n : ℕ) → list_all spares (held_code op 
 unfolding factor_rest_to
 held_spares op rd ra n = held_is (λ bs. list_all spares bs ≡ true) op rd ra n (grind arith) (grind arith)
 
-binary_spares : (op : SpBinary) (rd ra rb : ℕ) → (is_division op || is_some (both_of op)) ≡ false → Spares (binary_code op rd ra rb)
+binary_spares : (op : SpBinary) (rd ra rb : ℕ) → (is_division op || is_some (both_of op)) ≡ false
+    → Spares (binary_code op rd ra rb)
 binary_spares binary.BitOr rd ra rb is = lone refl
 binary_spares binary.BitXor rd ra rb is = lone refl
 binary_spares binary.BitAnd rd ra rb is = lone refl
@@ -117,22 +126,31 @@ binary_spares _ rd ra rb is = absurd (true≢false is)
 
 value_spares : (homes : Homes) (e : PlainSp) (rd to : ℕ) → spares_second e ≡ true → Spares (value_code homes e rd to)
 value_spares homes (constant n) rd to h = lone (rw (number_spares to n) refl)
-value_spares homes (frame_word slot) rd to h = word_code_is (λ bs. Spares (one (straight bs))) homes to slot (λ p. lone refl) (lone (rw (read_spares homes.first to slot) refl))
+value_spares homes (frame_word slot) rd to h = word_code_is (λ bs. Spares (one (straight bs))) homes to slot
+    (λ p. lone refl) (lone (rw (read_spares homes.first to slot) refl))
 value_spares homes (cell_word cell) rd to h = lone (cell_spares cell.region cell.word to)
-value_spares homes (array_word array index) rd to h = lone (element_spares array.region array.first array.length to (value_at homes index rd))
+value_spares homes (array_word array index) rd to h =
+    lone (element_spares array.region array.first array.length to (value_at homes index rd))
 value_spares homes (before_one op of) rd to h = lone (unary_spares op to (value_at homes of rd))
 value_spares homes (between_two op a b) rd to h =
-    let other = not-true (is_division op || is_some (both_of op)) (and_parts (not (is_division op || is_some (both_of op))) (spares_second a && spares_second b) h).0 in
-    one_of Spares (is_immediate op b) (nat_lt (need a) (need b)) (one (straight (held_code op to (value_at homes a rd) (number_of b)))) (binary_code op to (value_at homes a (rd + 1)) (value_at homes b rd)) (binary_code op to (value_at homes a rd) (value_at homes b (rd + 1)))
+    let other = not-true (is_division op || is_some (both_of op))
+    (and_parts (not (is_division op || is_some (both_of op))) (spares_second a && spares_second b) h).0 in
+    one_of Spares (is_immediate op b) (nat_lt (need a) (need b))
+    (one (straight (held_code op to (value_at homes a rd) (number_of b))))
+    (binary_code op to (value_at homes a (rd + 1)) (value_at homes b rd))
+    (binary_code op to (value_at homes a rd) (value_at homes b (rd + 1)))
     (lone (held_spares op to (value_at homes a rd) (number_of b)))
-    (λ less. binary_spares op to (value_at homes a (rd + 1)) (value_at homes b rd) other) (λ more. binary_spares op to (value_at homes a rd) (value_at homes b (rd + 1)) other)
+    (λ less. binary_spares op to (value_at homes a (rd + 1)) (value_at homes b rd) other) (λ more. binary_spares op to
+    (value_at homes a rd) (value_at homes b (rd + 1)) other)
 
 pub operands_spare : (homes : Homes) (e : PlainSp) (rd : ℕ) → spares_second e ≡ true → Spares (operands_code homes e rd)
-operands_spare homes e rd h = operands_are Spares homes (λ e rd. spares_second e ≡ true) none both spares_handed (λ e rd h. value_spares homes e rd rd h) e rd h
+operands_spare homes e rd h = operands_are Spares homes (λ e rd. spares_second e ≡ true) none both spares_handed
+    (λ e rd h. value_spares homes e rd rd h) e rd h
 
 -- ---- tests
 
-compare_spares : (op : SpBinary) (ra rb : ℕ) → (is_division op || is_some (both_of op)) ≡ false → list_all spares (by_two (cmp_of op) op ra rb) ≡ true
+compare_spares : (op : SpBinary) (ra rb : ℕ) → (is_division op || is_some (both_of op)) ≡ false
+    → list_all spares (by_two (cmp_of op) op ra rb) ≡ true
 compare_spares op ra rb other = grind (arith, other)
 
 number_spare : (o : Option CmpFunc) (ra n : ℕ) → list_all spares (by_number o ra n) ≡ true
@@ -148,12 +166,16 @@ test_spares homes (before_one op of) h = refl
 test_spares homes (between_two op a b) h = by (is_immediate op b) (nat_lt (need a) (need b))
   where
     other : (is_division op || is_some (both_of op)) ≡ false
-    other = not-true (is_division op || is_some (both_of op)) (and_parts (not (is_division op || is_some (both_of op))) (spares_second a && spares_second b) h).0
+    other = not-true (is_division op || is_some (both_of op)) (and_parts (not (is_division op || is_some (both_of op)))
+        (spares_second a && spares_second b) h).0
 
-    by : (held less : Bool) → list_all spares (if held then by_number (cmp_of op) (value_at homes a FIRST) (number_of b) else if less then by_two (cmp_of op) op (value_at homes a (FIRST + 1)) (value_at homes b FIRST) else by_two (cmp_of op) op (value_at homes a FIRST) (value_at homes b (FIRST + 1))) ≡ true
+    by : (held less : Bool) → list_all spares (if held then by_number (cmp_of op) (value_at homes a FIRST)
+        (number_of b) else if less then by_two (cmp_of op) op (value_at homes a (FIRST + 1)) (value_at homes b FIRST)
+        else by_two (cmp_of op) op (value_at homes a FIRST) (value_at homes b (FIRST + 1))) ≡ true
     by true less = number_spare (cmp_of op) (value_at homes a FIRST) (number_of b)
     by false true = compare_spares op (value_at homes a (FIRST + 1)) (value_at homes b FIRST) other
     by false false = compare_spares op (value_at homes a FIRST) (value_at homes b (FIRST + 1)) other
 
 pub test_spared : (homes : Homes) (e : PlainSp) → spares_second e ≡ true → Spares (tested_code homes e)
-test_spared homes e h = both (operands_code homes e FIRST) (one (straight (test_of homes e))) (operands_spare homes e FIRST h) (lone (test_spares homes e h))
+test_spared homes e h = both (operands_code homes e FIRST) (one (straight (test_of homes e)))
+    (operands_spare homes e FIRST h) (lone (test_spares homes e h))

@@ -24,7 +24,8 @@ differ a b = if a then not b else b
 
 data Read (a : ℕ) : Type 0 where
   plain : a < 2 ^ 31 → has_bit a 31 ≡ false → to_z w32 a ≡ pos a → Read a
-  minus : (k : ℕ) → suc k + a ≡ 2 ^ 32 → suc k ≤ 2 ^ 31 → has_bit a 31 ≡ true → to_z w32 a ≡ negsuc k → negative a ≡ suc k → Read a
+  minus : (k : ℕ) → suc k + a ≡ 2 ^ 32 → suc k ≤ 2 ^ 31 → has_bit a 31 ≡ true → to_z w32 a ≡ negsuc k → negative a
+      ≡ suc k → Read a
 
 read_of : (a : ℕ) → a < 2 ^ 32 → Read a
 read_of a word = by (cases_lt a (2 ^ 31))
@@ -32,7 +33,9 @@ read_of a word = by (cases_lt a (2 ^ 31))
     by : (a < 2 ^ 31) ⊎ (2 ^ 31 ≤ a) → Read a
     by (inl less) = plain less (ne_eqb (a / 2 ^ 31 % 2) 1 (omega (arith, less))) (rw (lt-ltb a (2 ^ 31) less) refl)
     by (inr more) =
-        minus (2 ^ 32 - suc a) (omega (arith, word)) (omega (arith, more)) (eq-eqb (a / 2 ^ 31 % 2) 1 (omega (arith, more, word))) (rw (le-ltb a (2 ^ 31) more) refl) (omega (arith, more, word))
+        minus (2 ^ 32 - suc a) (omega (arith, word)) (omega (arith, more))
+        (eq-eqb (a / 2 ^ 31 % 2) 1 (omega (arith, more, word))) (rw (le-ltb a (2 ^ 31) more) refl)
+        (omega (arith, more, word))
 
 of_negative : (x : ℕ) → x ≤ 2 ^ 31 → of_z w32 (neg_ℤ (pos x)) ≡ negative x
 of_negative zero small = refl
@@ -48,22 +51,28 @@ size_some b word some = by (read_of b word)
   where
     by : Read b → (size_of b == 0) ≡ false
     by (plain less off read) = ap (λ on. signed on b == 0) off ∙ ne_eqb b 0 (omega (arith, some))
-    by (minus k is small on read negated) = ap (λ on. signed on b == 0) on ∙ ap (λ n. n == 0) negated ∙ ne_eqb (suc k) 0 (omega arith)
+    by (minus k is small on read negated) =
+        ap (λ on. signed on b == 0) on ∙ ap (λ n. n == 0) negated ∙ ne_eqb (suc k) 0 (omega arith)
 
 -- ---- quotients
 
-quotients : (a b : ℕ) → Read a → Read b → of_z w32 (int_div (to_z w32 a) (to_z w32 b)) ≡ signed (differ (has_bit a 31) (has_bit b 31)) (size_of a / size_of b)
+quotients : (a b : ℕ) → Read a → Read b → of_z w32 (int_div (to_z w32 a) (to_z w32 b))
+    ≡ signed (differ (has_bit a 31) (has_bit b 31)) (size_of a / size_of b)
 quotients a b (plain la offa ra) (plain lb offb rb) = rw (ra, rb, offa, offb) refl
-quotients a b (plain la offa ra) (minus j isb smallb onb rb negb) = rw (ra, rb, offa, onb, negb) (of_negative (a / suc j) (omega (arith, la, div-le_self a (suc j))))
-quotients a b (minus k isa smalla ona ra nega) (plain lb offb rb) = rw (ra, rb, ona, offb, nega) (of_negative (suc k / b) (omega (arith, smalla, div-le_self (suc k) b)))
+quotients a b (plain la offa ra) (minus j isb smallb onb rb negb) =
+    rw (ra, rb, offa, onb, negb) (of_negative (a / suc j) (omega (arith, la, div-le_self a (suc j))))
+quotients a b (minus k isa smalla ona ra nega) (plain lb offb rb) =
+    rw (ra, rb, ona, offb, nega) (of_negative (suc k / b) (omega (arith, smalla, div-le_self (suc k) b)))
 quotients a b (minus k isa smalla ona ra nega) (minus j isb smallb onb rb negb) = rw (ra, rb, ona, onb, nega, negb) refl
 
-pub signed_quotient : (a b : ℕ) → a < 2 ^ 32 → b < 2 ^ 32 → quotient a b ≡ signed (differ (has_bit a 31) (has_bit b 31)) (if size_of b == 0 then 0 else size_of a / size_of b)
+pub signed_quotient : (a b : ℕ) → a < 2 ^ 32 → b < 2 ^ 32 → quotient a b ≡ signed (differ (has_bit a 31) (has_bit b 31))
+    (if size_of b == 0 then 0 else size_of a / size_of b)
 signed_quotient a zero word_a word_b = signed_zero (differ (has_bit a 31) (has_bit 0 31))
 signed_quotient a (suc b) word_a word_b =
     ap (λ on. if on then 0 else of_z w32 (int_div (to_z w32 a) (to_z w32 (suc b)))) (ne_eqb (suc b) 0 (omega arith))
     ∙ quotients a (suc b) (read_of a word_a) (read_of (suc b) word_b)
-    ∙ ap (λ on. signed (differ (has_bit a 31) (has_bit (suc b) 31)) (if on then 0 else size_of a / size_of (suc b))) (sym (size_some (suc b) word_b (omega arith)))
+    ∙ ap (λ on. signed (differ (has_bit a 31) (has_bit (suc b) 31)) (if on then 0 else size_of a / size_of (suc b)))
+    (sym (size_some (suc b) word_b (omega arith)))
 
 -- ---- what is left
 
@@ -71,18 +80,23 @@ twice_negative : (a : ℕ) → Read a → a ≡ signed (has_bit a 31) (size_of a
 twice_negative a (plain less off read) = rw off refl
 twice_negative a (minus k is small on read negated) = rw (on, negated) (omega (arith, is))
 
-rests : (a b : ℕ) → Read a → Read b → of_z w32 (int_rem (to_z w32 a) (to_z w32 b)) ≡ signed (has_bit a 31) (size_of a % size_of b)
+rests : (a b : ℕ) → Read a → Read b → of_z w32 (int_rem (to_z w32 a) (to_z w32 b))
+    ≡ signed (has_bit a 31) (size_of a % size_of b)
 rests a b (plain la offa ra) (plain lb offb rb) = rw (ra, rb, offa, offb) refl
 rests a b (plain la offa ra) (minus j isb smallb onb rb negb) = rw (ra, rb, offa, onb, negb) refl
-rests a b (minus k isa smalla ona ra nega) (plain lb offb rb) = rw (ra, rb, ona, offb, nega) (of_negative (suc k % b) (omega (arith, smalla, mod-le (suc k) b)))
-rests a b (minus k isa smalla ona ra nega) (minus j isb smallb onb rb negb) = rw (ra, rb, ona, onb, nega, negb) (of_negative (suc k % suc j) (omega (arith, smalla, mod-le (suc k) (suc j))))
+rests a b (minus k isa smalla ona ra nega) (plain lb offb rb) =
+    rw (ra, rb, ona, offb, nega) (of_negative (suc k % b) (omega (arith, smalla, mod-le (suc k) b)))
+rests a b (minus k isa smalla ona ra nega) (minus j isb smallb onb rb negb) =
+    rw (ra, rb, ona, onb, nega, negb) (of_negative (suc k % suc j) (omega (arith, smalla, mod-le (suc k) (suc j))))
 
-pub signed_rest : (a b : ℕ) → a < 2 ^ 32 → b < 2 ^ 32 → rest a b ≡ signed (has_bit a 31) (if size_of b == 0 then size_of a else size_of a % size_of b)
+pub signed_rest : (a b : ℕ) → a < 2 ^ 32 → b < 2 ^ 32 → rest a b
+    ≡ signed (has_bit a 31) (if size_of b == 0 then size_of a else size_of a % size_of b)
 signed_rest a zero word_a word_b = twice_negative a (read_of a word_a)
 signed_rest a (suc b) word_a word_b =
     ap (λ on. if on then a else of_z w32 (int_rem (to_z w32 a) (to_z w32 (suc b)))) (ne_eqb (suc b) 0 (omega arith))
     ∙ rests a (suc b) (read_of a word_a) (read_of (suc b) word_b)
-    ∙ ap (λ on. signed (has_bit a 31) (if on then size_of a else size_of a % size_of (suc b))) (sym (size_some (suc b) word_b (omega arith)))
+    ∙ ap (λ on. signed (has_bit a 31) (if on then size_of a else size_of a % size_of (suc b))) (sym
+    (size_some (suc b) word_b (omega arith)))
 
 -- ---- by a number without a sign
 
@@ -91,13 +105,15 @@ record Plain (n : ℕ) : Type 0 where
   other : (n == 0) ≡ false
 
 plain_of : (n : ℕ) → 1 ≤ n → n < 2 ^ 31 → Plain n
-plain_of n some small = record { off = ne_eqb (n / 2 ^ 31 % 2) 1 (omega (arith, small)); other = ne_eqb n 0 (omega (arith, some)) }
+plain_of n some small =
+    record { off = ne_eqb (n / 2 ^ 31 % 2) 1 (omega (arith, small)); other = ne_eqb n 0 (omega (arith, some)) }
 
 differ_not : (on : Bool) → differ on false ≡ on
 differ_not true = refl
 differ_not false = refl
 
-pub signed_quotient_by : (a n : ℕ) → a < 2 ^ 32 → 1 ≤ n → n < 2 ^ 31 → quotient a n ≡ signed (has_bit a 31) (size_of a / n)
+pub signed_quotient_by : (a n : ℕ) → a < 2 ^ 32 → 1 ≤ n → n < 2 ^ 31 → quotient a n
+    ≡ signed (has_bit a 31) (size_of a / n)
 signed_quotient_by a n word some small =
     let p = plain_of n some small in
     signed_quotient a n word (omega (arith, small))
@@ -146,8 +162,10 @@ rest_unsigned_word a b word = one_of_words (b == 0) a (a % b) word (omega (arith
 pub quotient_word : (a b : ℕ) → a < 2 ^ 32 → b < 2 ^ 32 → quotient a b < 2 ^ 32
 quotient_word a b word_a word_b =
     subst (λ n. n < 2 ^ 32) (sym (signed_quotient a b word_a word_b))
-    (signed_word (differ (has_bit a 31) (has_bit b 31)) _ (quotient_unsigned_word (size_of a) (size_of b) (size_word a word_a)))
+    (signed_word (differ (has_bit a 31) (has_bit b 31)) _ (quotient_unsigned_word (size_of a) (size_of b)
+    (size_word a word_a)))
 
 pub rest_word : (a b : ℕ) → a < 2 ^ 32 → b < 2 ^ 32 → rest a b < 2 ^ 32
 rest_word a b word_a word_b =
-    subst (λ n. n < 2 ^ 32) (sym (signed_rest a b word_a word_b)) (signed_word (has_bit a 31) _ (rest_unsigned_word (size_of a) (size_of b) (size_word a word_a)))
+    subst (λ n. n < 2 ^ 32) (sym (signed_rest a b word_a word_b)) (signed_word (has_bit a 31) _
+    (rest_unsigned_word (size_of a) (size_of b) (size_word a word_a)))

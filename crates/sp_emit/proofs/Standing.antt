@@ -8,7 +8,8 @@ use Rattle.sp_emit.specs.Means.{start_of, HasWords}
 use Rattle.sp_emit.specs.Serving.{WorldStands}
 use Rattle.sp_emit.specs.declared.registers.TheConstants.{OVERRUN}
 
-pub world_stands : (v w : World) (m t : Run) → v ≡ w → HasWords w m.memory → HasWords v t.memory → held OVERRUN m ≡ flag w.overrun → held OVERRUN t ≡ flag v.overrun → WorldStands m t
+pub world_stands : (v w : World) (m t : Run) → v ≡ w → HasWords w m.memory → HasWords v t.memory → held OVERRUN m
+    ≡ flag w.overrun → held OVERRUN t ≡ flag v.overrun → WorldStands m t
 world_stands v w m t same before after was set = record {
   scratch = λ x. after.scratch x ∙ ap (λ z. z.scratch x) same ∙ sym (before.scratch x);
   comm = λ x. after.comm x ∙ ap (λ z. z.comm x) same ∙ sym (before.comm x);

@@ -21,12 +21,18 @@ read_takes : (most homes rd slot : ℕ) → takes_at_most most (read_word homes 
 read_takes most homes rd slot = read_is (λ b. takes_at_most most b ≡ true) homes rd slot refl (λ out. refl)
 
 set_takes : (most homes slot rs : ℕ) → takes_at_most most (set_word homes always slot rs) ≡ true
-set_takes most homes slot rs = set_op_is (λ op. takes_at_most most (under always op) ≡ true) homes slot rs refl (λ out. refl)
+set_takes most homes slot rs =
+    set_op_is (λ op. takes_at_most most (under always op) ≡ true) homes slot rs refl (λ out. refl)
 
-pub function_takes : (homes : Homes) (f : PlainFunction) → 2 ≤ f.frame → parts_all (takes_at_most f.frame) (function_code homes f) ≡ true
+pub function_takes : (homes : Homes) (f : PlainFunction) → 2 ≤ f.frame
+    → parts_all (takes_at_most f.frame) (function_code homes f) ≡ true
 function_takes homes f some =
     let holds = takes_at_most f.frame in
     let body = body_code homes f in
-    and_from (list_all holds (function_begin homes f)) (parts_all holds (joined body (function_rest homes.first f))) (begin_all holds homes f (le-leb (frame_words homes.first f) f.frame (words_few homes.first f some)) (λ r. refl) (λ slot rs. set_takes f.frame homes.first slot rs) refl (λ slot p is. refl) (λ p is. refl) refl)
-    (each_joined holds body (function_rest homes.first f) (each_so (is_firm 8) holds (takes_firm f.frame 8) body (body_firm homes f))
-    (and_from (list_all holds (function_end homes.first f)) true (end_all holds homes.first f refl (read_takes f.frame homes.first RESULT f.result) refl refl) refl))
+    and_from (list_all holds (function_begin homes f)) (parts_all holds (joined body (function_rest homes.first f)))
+    (begin_all holds homes f (le-leb (frame_words homes.first f) f.frame (words_few homes.first f some)) (λ r. refl)
+    (λ slot rs. set_takes f.frame homes.first slot rs) refl (λ slot p is. refl) (λ p is. refl) refl)
+    (each_joined holds body (function_rest homes.first f) (each_so (is_firm 8) holds (takes_firm f.frame 8) body
+    (body_firm homes f))
+    (and_from (list_all holds (function_end homes.first f)) true (end_all holds homes.first f refl
+    (read_takes f.frame homes.first RESULT f.result) refl refl) refl))

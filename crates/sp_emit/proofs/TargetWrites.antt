@@ -45,7 +45,8 @@ use Rattle.sp_emit.proofs.Values.{behind, fits_of, expr_keeps, run_joined, run_l
 use Rattle.sp_emit.specs.declared.stands.Homes.{Homes}
 
 -- a store at the address that a register holds, where the predicate is true
-record Stores (homes : Homes) (slots count told : ℕ) (r : Region) (word at words v : ℕ) (b : Bool) (s : State) (m : Run) : Type 0 where
+record Stores (homes : Homes) (slots count told : ℕ) (r : Region) (word at words v : ℕ) (b : Bool) (s : State)
+    (m : Run) : Type 0 where
   follows : Follows homes slots s m
   test : so told m ≡ b
   value : held FIRST m ≡ v
@@ -58,29 +59,46 @@ record Stores (homes : Homes) (slots count told : ℕ) (r : Region) (word at wor
   address : b ≡ true → address_by (held at m) words 4 ≡ address_of r word
   lies : b ≡ true → word < room_in r all_rooms
 
-cell_stored : (homes : Homes) (slots count told : ℕ) (r : Region) (word at words v : ℕ) (b : Bool) (s : State) (m : Run) → Stores homes slots count told r word at words v b s m
-    → Done homes slots count (with_where b r word v s) m (run by_words (all_done (masked_store told (cell_space r) at words)) m)
+cell_stored : (homes : Homes) (slots count told : ℕ) (r : Region) (word at words v : ℕ) (b : Bool) (s : State) (m : Run)
+    → Stores homes slots count told r word at words v b s m
+    → Done homes slots count (with_where b r word v s) m (run by_words
+    (all_done (masked_store told (cell_space r) at words)) m)
 cell_stored homes slots count told region.Scratch word at words v b s m x =
-    local_store homes slots count told region.Scratch word at words v b s m x.follows x.test x.value x.below (λ on. ap (cell_of mem.L) (x.address on) ∙ cell_found region.Scratch word (x.lies on))
+    local_store homes slots count told region.Scratch word at words v b s m x.follows x.test x.value x.below
+    (λ on. ap (cell_of mem.L) (x.address on) ∙ cell_found region.Scratch word (x.lies on))
 cell_stored homes slots count told region.Comm word at words v b s m x =
-    local_store homes slots count told region.Comm word at words v b s m x.follows x.test x.value x.below (λ on. ap (cell_of mem.L) (x.address on) ∙ cell_found region.Comm word (x.lies on))
+    local_store homes slots count told region.Comm word at words v b s m x.follows x.test x.value x.below
+    (λ on. ap (cell_of mem.L) (x.address on) ∙ cell_found region.Comm word (x.lies on))
 cell_stored homes slots count told region.Private word at words v b s m x =
-    main_store homes slots count told mem.C cached_is_plain region.Private word at words v b s m x.follows x.test x.value x.below x.above x.apart x.few x.near x.some (λ on. ap (cell_of mem.C) (x.address on) ∙ cell_found region.Private word (x.lies on)) refl
+    main_store homes slots count told mem.C cached_is_plain region.Private word at words v b s m x.follows x.test
+    x.value x.below x.above x.apart x.few x.near x.some (λ on. ap (cell_of mem.C) (x.address on)
+    ∙ cell_found region.Private word (x.lies on)) refl
 cell_stored homes slots count told region.Shared word at words v b s m x =
-    main_store homes slots count told mem.M main_is_plain region.Shared word at words v b s m x.follows x.test x.value x.below x.above x.apart x.few x.near x.some (λ on. ap (cell_of mem.M) (x.address on) ∙ cell_found region.Shared word (x.lies on)) refl
+    main_store homes slots count told mem.M main_is_plain region.Shared word at words v b s m x.follows x.test x.value
+    x.below x.above x.apart x.few x.near x.some (λ on. ap (cell_of mem.M) (x.address on)
+    ∙ cell_found region.Shared word (x.lies on)) refl
 
-element_stored : (homes : Homes) (slots count told : ℕ) (r : Region) (word at words v : ℕ) (b : Bool) (s : State) (m : Run) → Stores homes slots count told r word at words v b s m
-    → Done homes slots count (with_where b r word v s) m (run by_words (all_done (masked_store told (array_space r) at words)) m)
+element_stored : (homes : Homes) (slots count told : ℕ) (r : Region) (word at words v : ℕ) (b : Bool) (s : State)
+    (m : Run) → Stores homes slots count told r word at words v b s m
+    → Done homes slots count (with_where b r word v s) m (run by_words
+    (all_done (masked_store told (array_space r) at words)) m)
 element_stored homes slots count told region.Private word at words v b s m x =
-    main_store homes slots count told mem.M main_is_plain region.Private word at words v b s m x.follows x.test x.value x.below x.above x.apart x.few x.near x.some (λ on. ap (cell_of mem.M) (x.address on) ∙ element_found region.Private word (x.lies on)) refl
-element_stored homes slots count told other word at words v b s m x = cell_stored homes slots count told other word at words v b s m x
+    main_store homes slots count told mem.M main_is_plain region.Private word at words v b s m x.follows x.test x.value
+    x.below x.above x.apart x.few x.near x.some (λ on. ap (cell_of mem.M) (x.address on)
+    ∙ element_found region.Private word (x.lies on)) refl
+element_stored homes slots count told other word at words v b s m x =
+    cell_stored homes slots count told other word at words v b s m x
 
-same_address : (r : Region) (word : ℕ) → word < room_in r all_rooms → address_by (address_of r word) 0 4 ≡ address_of r word
+same_address : (r : Region) (word : ℕ) → word < room_in r all_rooms → address_by (address_of r word) 0 4
+    ≡ address_of r word
 same_address r word lies = omega (arith, first_small r word (omega (arith, lies)))
 
 -- a value that is set in a variable
-pub cell_done : (homes : Homes) (f : ℕ → List Step) (frame counter slots mask : ℕ) (c : SpCell) (e : PlainSp) (s : State) (m : Run) → slots ≤ 128 → mask < slots → cell_formed c ≡ true → expr_formed slots e ≡ true → HasWordConstants e → FIRST + need e ≤ homes.first
-    → Follows homes slots s m → Done homes slots (counter + 1) (where_on mask (write_done (to_cell c) e) s) m (run by_words (parts_trail f (stmt_code homes frame counter (writes mask (to_cell c) e))) m)
+pub cell_done : (homes : Homes) (f : ℕ → List Step) (frame counter slots mask : ℕ) (c : SpCell) (e : PlainSp)
+    (s : State) (m : Run) → slots ≤ 128 → mask < slots → cell_formed c ≡ true → expr_formed slots e ≡ true
+    → HasWordConstants e → FIRST + need e ≤ homes.first
+    → Follows homes slots s m → Done homes slots (counter + 1) (where_on mask (write_done (to_cell c) e) s) m
+    (run by_words (parts_trail f (stmt_code homes frame counter (writes mask (to_cell c) e))) m)
 unfolding with_where
 cell_done homes f frame counter slots mask c e s m most masked cell formed constants free x =
     let r = ready homes slots FIRST e s m (omega arith) (omega arith) free most formed constants x in
@@ -90,15 +108,20 @@ cell_done homes f frame counter slots mask c e s m most masked cell formed const
     let t = tested homes slots mask s n most masked y in
     let u = run by_words (all_done (mask_test homes mask)) n in
     let address = address_of c.region c.word in
-    let lies = ltb-true c.word (room_in c.region all_rooms) (and_parts (nat_le (first_of c.region) c.word) (nat_lt c.word (room_in c.region all_rooms)) cell).1 in
+    let lies = ltb-true c.word (room_in c.region all_rooms) (and_parts (nat_le (first_of c.region) c.word)
+    (nat_lt c.word (room_in c.region all_rooms)) cell).1 in
     let u2 = once by_words (set_number SPARE address) u in
-    let long = calm_run by_words SPARE homes.first (all_done (set_number SPARE address ∷ [])) u (omega arith) t.keeps.whole (rw (number_calm SPARE homes.first SPARE address (spare_free SPARE homes.first SPARE (omega arith) (omega arith))) refl) in
+    let long = calm_run by_words SPARE homes.first (all_done (set_number SPARE address ∷ [])) u
+    (omega arith) t.keeps.whole (rw (number_calm SPARE homes.first SPARE address (spare_free SPARE homes.first SPARE
+    (omega arith) (omega arith))) refl) in
     let v = (0 + address) % 2 ^ 32 in
     let set = did_set_number by_words SPARE address u t.keeps.whole in
     let small = first_small c.region c.word (omega (arith, lies)) in
-    let holds_it : held SPARE u2 ≡ address = ap (held SPARE) set ∙ got SPARE v u t.keeps.whole (omega arith) (omega arith) ∙ omega (arith, small) in
+    let holds_it : held SPARE u2 ≡ address =
+    ap (held SPARE) set ∙ got SPARE v u t.keeps.whole (omega arith) (omega arith) ∙ omega (arith, small) in
     let told = told_at homes mask in
-    let done = cell_stored homes slots (counter + 1) told c.region c.word SPARE 0 (worth e s) (s.frame mask == 1) s u2 (record {
+    let done = cell_stored homes slots (counter + 1) told c.region c.word SPARE 0 (worth e s)
+    (s.frame mask == 1) s u2 (record {
       follows = follows_still long (follows_still t.keeps y);
       test = ap (so told) set ∙ so_by_register SPARE v told u t.keeps.whole (told_few homes mask).1 ∙ t.test;
       value = long.low FIRST (omega arith) ∙ t.keeps.low FIRST (omega arith) ∙ value_left f e r;
@@ -111,20 +134,25 @@ cell_done homes f frame counter slots mask c e s m most masked cell formed const
       address = λ on. ap (λ a. address_by a 0 4) holds_it ∙ same_address c.region c.word lies;
       lies = λ on. lies;
     }) in
-    subst (Done homes slots (counter + 1) (where_on mask (write_done (to_cell c) e) s) m) (sym (run_joined by_words f (expr_code homes e FIRST) (target_write homes mask (to_cell c)) m ∙ run_lone by_words f (cell_write homes mask c) n)) (record {
+    subst (Done homes slots (counter + 1) (where_on mask (write_done (to_cell c) e) s) m)
+    (sym (run_joined by_words f (expr_code homes e FIRST) (target_write homes mask (to_cell c)) m
+    ∙ run_lone by_words f (cell_write homes mask c) n)) (record {
       follows = done.follows;
-      keeps = keeps_then (behind_still (counter + 1) keeps) (keeps_then (behind_still (counter + 1) t.keeps) (keeps_then (behind_still (counter + 1) long) done.keeps));
+      keeps = keeps_then (behind_still (counter + 1) keeps) (keeps_then (behind_still (counter + 1) t.keeps)
+          (keeps_then (behind_still (counter + 1) long) done.keeps));
     })
 
 -- ---- elements
 
 pub same_element : (b : Bool) (r : Region) (first length index v : ℕ) (s : State)
-    → with_where (b && nat_lt index length) r (first + index) v s ≡ (if b then in_world s (with_element r first length index v s.world) else s)
+    → with_where (b && nat_lt index length) r (first + index) v s
+    ≡ (if b then in_world s (with_element r first length index v s.world) else s)
 unfolding with_where
 same_element false r first length index v s = refl
 same_element true r first length index v s = by (nat_lt index length)
   where
-    by : (on : Bool) → (if on then in_world s (with_word r (first + index) v s.world) else s) ≡ in_world s (if on then with_word r (first + index) v s.world else s.world)
+    by : (on : Bool) → (if on then in_world s (with_word r (first + index) v s.world) else s)
+        ≡ in_world s (if on then with_word r (first + index) v s.world else s.world)
     by true = refl
     by false = refl
 
@@ -141,13 +169,17 @@ element_address_made rest told a =
 pub record Reaches (homes : Homes) (b : Bool) (v index : ℕ) (a : SpArray) (u t : Run) : Type 0 where
   pub keeps : Keeps (FIRST + 1) homes.first u t
   pub test : so TEST t ≡ (b && nat_lt index a.length)
-  pub address : a.first + index < room_in a.region all_rooms → address_by (held (FIRST + 1) t) (offset_of a) 4 ≡ address_of a.region (a.first + index)
+  pub address : a.first + index < room_in a.region all_rooms → address_by (held (FIRST + 1) t) (offset_of a) 4
+      ≡ address_of a.region (a.first + index)
 
-pub reaches : (homes : Homes) (from : Sources) (told : ℕ) (b : Bool) (v index : ℕ) (a : SpArray) (u : Run) → told < 8 → (SECOND ≡ told → ⊥) → FIRST + 1 < homes.first → IsWhole u → so told u ≡ b → held (FIRST + 1) u ≡ index → a.length < 2 ^ 32 → address_of a.region a.first < 2 ^ 32
+pub reaches : (homes : Homes) (from : Sources) (told : ℕ) (b : Bool) (v index : ℕ) (a : SpArray) (u : Run) → told < 8
+    → (SECOND ≡ told → ⊥) → FIRST + 1 < homes.first → IsWhole u → so told u ≡ b → held (FIRST + 1) u ≡ index
+    → a.length < 2 ^ 32 → address_of a.region a.first < 2 ^ 32
     → Reaches homes b v index a u (run from (all_done (element_address_made [] told a)) u)
 unfolding element_address_made
 reaches homes from told b v index a u few other within whole test is len_small at_small =
-    let n = once from (under always (below_op SECOND (FIRST + 1) a.length)) (once from (under always (length_op a.length)) u) in
+    let n = once from (under always (below_op SECOND (FIRST + 1) a.length))
+    (once from (under always (length_op a.length)) u) in
     let c = compares from SECOND (FIRST + 1) a.length u whole (omega arith) (omega arith) (omega arith) len_small in
     let both = so told n && so SECOND n in
     let w = write.Predicate TEST both in
@@ -155,8 +187,10 @@ reaches homes from told b v index a u few other within whole test is len_small a
     let h = whole_written w n c.whole in
     let joins = did_combine from comb.Pand TEST told SECOND n c.whole in
     let s = scales from a (FIRST + 1) (FIRST + 1) k h (omega arith) (omega arith) (omega arith) at_small in
-    let index_is : held (FIRST + 1) k ≡ index = kept_by_pred TEST both (FIRST + 1) n c.whole (omega arith) ∙ c.regs (FIRST + 1) (omega arith) ∙ is in
-    let steps = ap (λ t. once from (under always (scaled_op a (FIRST + 1) (FIRST + 1))) (once from (under always (base_op a)) t)) joins in
+    let index_is : held (FIRST + 1) k ≡ index =
+    kept_by_pred TEST both (FIRST + 1) n c.whole (omega arith) ∙ c.regs (FIRST + 1) (omega arith) ∙ is in
+    let steps = ap (λ t. once from (under always (scaled_op a (FIRST + 1) (FIRST + 1)))
+    (once from (under always (base_op a)) t)) joins in
     record {
       keeps = calm_run from (FIRST + 1) homes.first (all_done (element_address_made [] told a)) u (omega arith) whole (
           let free = own_free (FIRST + 1) homes.first (FIRST + 1) (omega arith) (omega arith) within in
@@ -164,41 +198,56 @@ reaches homes from told b v index a u few other within whole test is len_small a
           let address = calm_address (FIRST + 1) homes.first a SECOND (FIRST + 1) (FIRST + 1) refl free spare in
           rw (address.length, address.below, address.base, address.scaled) refl
           );
-      test = ap (so TEST) steps ∙ s.preds TEST (omega arith) ∙ so_got TEST both n c.whole (omega arith) (omega arith) ∙ ap (λ x. x && so SECOND n) (c.preds told few other ∙ test)
+      test = ap (so TEST) steps ∙ s.preds TEST (omega arith) ∙ so_got TEST both n c.whole (omega arith) (omega arith)
+          ∙ ap (λ x. x && so SECOND n) (c.preds told few other ∙ test)
           ∙ ap (λ x. b && x) (c.test ∙ ap (λ i. nat_lt i a.length) is);
       address = λ lies. ap (λ t. address_by (held (FIRST + 1) t) (offset_of a) 4) steps
-          ∙ s.address (subst (λ i. a.first + i < room_in a.region all_rooms) (sym index_is) lies) ∙ ap (λ i. address_of a.region (a.first + i)) index_is;
+          ∙ s.address (subst (λ i. a.first + i < room_in a.region all_rooms) (sym index_is) lies)
+          ∙ ap (λ i. address_of a.region (a.first + i)) index_is;
     }
 
 -- a value that is set in an element of an array
-pub element_done : (homes : Homes) (f : ℕ → List Step) (frame counter slots mask : ℕ) (array : SpArray) (index e : PlainSp) (s : State) (m : Run) → slots ≤ 128 → mask < slots → array_formed array ≡ true → expr_formed slots index ≡ true → HasWordConstants index
-    → expr_formed slots e ≡ true → HasWordConstants e → FIRST + need e ≤ homes.first → FIRST + 1 + need index ≤ homes.first → Follows homes slots s m
-    → Done homes slots (counter + 1) (where_on mask (write_done (to_array array index) e) s) m (run by_words (parts_trail f (stmt_code homes frame counter (writes mask (to_array array index) e))) m)
+pub element_done : (homes : Homes) (f : ℕ → List Step) (frame counter slots mask : ℕ) (array : SpArray)
+    (index e : PlainSp) (s : State) (m : Run) → slots ≤ 128 → mask < slots → array_formed array ≡ true
+    → expr_formed slots index ≡ true → HasWordConstants index
+    → expr_formed slots e ≡ true → HasWordConstants e → FIRST + need e ≤ homes.first → FIRST + 1 + need index
+    ≤ homes.first → Follows homes slots s m
+    → Done homes slots (counter + 1) (where_on mask (write_done (to_array array index) e) s) m (run by_words
+    (parts_trail f (stmt_code homes frame counter (writes mask (to_array array index) e))) m)
 unfolding element_address_made
-element_done homes f frame counter slots mask array index e s m most masked formed_array formed_index constants_index formed constants free free_index x =
+element_done homes f frame counter slots mask array index e s m most masked formed_array formed_index constants_index
+    formed constants free free_index x =
     let r = ready homes slots FIRST e s m (omega arith) (omega arith) free most formed constants x in
     let n = behind homes f e FIRST m in
     let keeps = expr_keeps homes by_words f e FIRST m (fits_of r) r.free x.whole in
     let y = follows_still keeps x in
-    let ri = ready homes slots (FIRST + 1) index s n (omega arith) (omega arith) free_index most formed_index constants_index y in
+    let ri = ready homes slots (FIRST + 1) index s n (omega arith) (omega arith) free_index most formed_index
+    constants_index y in
     let ni = behind homes f index (FIRST + 1) n in
     let keeps_i = expr_keeps homes by_words f index (FIRST + 1) n (fits_of ri) ri.free keeps.whole in
     let yi = follows_still keeps_i y in
     let t = tested homes slots mask s ni most masked yi in
     let u = run by_words (all_done (mask_test homes mask)) ni in
     let i = worth index s in
-    let parts = and_parts (nat_le (first_of array.region) array.first) (nat_le (array.first + array.length) (room_in array.region all_rooms)) formed_array in
+    let parts = and_parts (nat_le (first_of array.region) array.first) (nat_le (array.first + array.length)
+    (room_in array.region all_rooms)) formed_array in
     let within = leb-true (array.first + array.length) (room_in array.region all_rooms) parts.1 in
     let b = s.frame mask == 1 in
     let v = worth e s in
     let told = told_at homes mask in
-    let reached = reaches homes by_words told b v i array u (told_few homes mask).1 (told_other homes mask) (omega (arith, free_index, some_need index)) t.keeps.whole t.test (t.keeps.low (FIRST + 1) (omega arith) ∙ value_left f index ri) (omega (arith, within, few_words array.region)) (first_small array.region array.first (omega (arith, within))) in
+    let reached = reaches homes by_words told b v i array u (told_few homes mask).1 (told_other homes mask)
+    (omega (arith, free_index, some_need index)) t.keeps.whole t.test (t.keeps.low (FIRST + 1) (omega arith)
+    ∙ value_left f index ri) (omega (arith, within, few_words array.region))
+    (first_small array.region array.first (omega (arith, within))) in
     let w = run by_words (all_done (element_address_made [] told array)) u in
-    let lies : (b && nat_lt i array.length) ≡ true → array.first + i < room_in array.region all_rooms = λ on. omega (arith, within, ltb-true i array.length (and_parts b (nat_lt i array.length) on).1) in
-    let done = element_stored homes slots (counter + 1) TEST array.region (array.first + i) (FIRST + 1) (offset_of array) v (b && nat_lt i array.length) s w (record {
+    let lies : (b && nat_lt i array.length) ≡ true → array.first + i < room_in array.region all_rooms =
+    λ on. omega (arith, within, ltb-true i array.length (and_parts b (nat_lt i array.length) on).1) in
+    let done = element_stored homes slots (counter + 1) TEST array.region (array.first + i) (FIRST + 1)
+    (offset_of array) v (b && nat_lt i array.length) s w (record {
       follows = follows_still reached.keeps (follows_still t.keeps yi);
       test = reached.test;
-      value = reached.keeps.low FIRST (omega arith) ∙ t.keeps.low FIRST (omega arith) ∙ keeps_i.low FIRST (omega arith) ∙ value_left f e r;
+      value = reached.keeps.low FIRST (omega arith) ∙ t.keeps.low FIRST (omega arith) ∙ keeps_i.low FIRST (omega arith)
+          ∙ value_left f e r;
       below = value_small e r;
       above = omega arith;
       apart = inl (omega (arith, free_index, some_need index), omega arith);
@@ -209,9 +258,15 @@ element_done homes f frame counter slots mask array index e s m most masked form
       lies = lies;
     }) in
     subst (Done homes slots (counter + 1) (where_on mask (write_done (to_array array index) e) s) m)
-    (sym (run_joined by_words f (expr_code homes e FIRST) (target_write homes mask (to_array array index)) m ∙ run_joined by_words f (expr_code homes index (FIRST + 1)) (one (straight (element_write homes mask array))) n ∙ run_lone by_words f (element_write homes mask array) ni))
+    (sym (run_joined by_words f (expr_code homes e FIRST) (target_write homes mask (to_array array index)) m
+    ∙ run_joined by_words f (expr_code homes index (FIRST + 1)) (one (straight (element_write homes mask array))) n
+    ∙ run_lone by_words f (element_write homes mask array) ni))
     (record {
-      follows = subst (λ z. Follows homes slots z (run by_words (all_done (masked_store TEST (array_space array.region) (FIRST + 1) (offset_of array))) w)) (same_element b array.region array.first array.length i v s) done.follows;
+      follows = subst
+          (λ z. Follows homes slots z
+          (run by_words (all_done (masked_store TEST (array_space array.region) (FIRST + 1) (offset_of array))) w))
+          (same_element b array.region array.first array.length i v s) done.follows;
       keeps = keeps_then (behind_still (counter + 1) keeps) (keeps_then (behind_still (counter + 1) keeps_i)
-          (keeps_then (behind_still (counter + 1) t.keeps) (keeps_then (behind_still (counter + 1) reached.keeps) done.keeps)));
+          (keeps_then (behind_still (counter + 1) t.keeps)
+          (keeps_then (behind_still (counter + 1) reached.keeps) done.keeps)));
     })

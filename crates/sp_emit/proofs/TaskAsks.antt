@@ -39,142 +39,227 @@ use Rattle.sp_emit.proofs.FlagWords.{handed_is}
 
 -- ---- values
 
-value_asks : (homes : Homes) (Named : Use → Type 0) (f : ℕ → List Step) (slots rd : ℕ) (e : PlainSp) → slots ≤ 128 → 1 ≤ rd → rd ≤ 9 → expr_formed slots e ≡ true → AreNamed Named (expr_uses e) → AsksOnly Named (parts_trail f (expr_code homes e rd))
-value_asks homes Named f slots rd e most some few formed named = expr_asks homes Named f e rd rd some (omega (arith, few)) some (expr_fits slots rd e most few formed) named
+value_asks : (homes : Homes) (Named : Use → Type 0) (f : ℕ → List Step) (slots rd : ℕ) (e : PlainSp) → slots ≤ 128
+    → 1 ≤ rd → rd ≤ 9 → expr_formed slots e ≡ true → AreNamed Named (expr_uses e)
+    → AsksOnly Named (parts_trail f (expr_code homes e rd))
+value_asks homes Named f slots rd e most some few formed named =
+    expr_asks homes Named f e rd rd some (omega (arith, few)) some (expr_fits slots rd e most few formed) named
 
-args_ask : (homes : Homes) (Named : Use → Type 0) (f : ℕ → List Step) (slots : ℕ) (args : List PlainSp) (rd : ℕ) → slots ≤ 128 → 1 ≤ rd → rd + length args ≤ 10 → args_formed slots args ≡ true → AreNamed Named (args_uses args) → AsksOnly Named (parts_trail f (args_code homes args rd))
+args_ask : (homes : Homes) (Named : Use → Type 0) (f : ℕ → List Step) (slots : ℕ) (args : List PlainSp) (rd : ℕ)
+    → slots ≤ 128 → 1 ≤ rd → rd + length args ≤ 10 → args_formed slots args ≡ true → AreNamed Named (args_uses args)
+    → AsksOnly Named (parts_trail f (args_code homes args rd))
 args_ask homes Named f slots [] rd most some few formed named = asks_nothing Named
 args_ask homes Named f slots (e ∷ args) rd most some few formed named =
     let parts = and_parts (expr_formed slots e) (args_formed slots args) formed in
-    asks_joined f (expr_code homes e rd) (args_code homes args (rd + 1)) (value_asks homes Named f slots rd e most some (omega (arith, few)) parts.0 (named_left Named (expr_uses e) (args_uses args) named))
-    (args_ask homes Named f slots args (rd + 1) most (omega arith) (omega (arith, few)) parts.1 (named_right Named (expr_uses e) (args_uses args) named))
+    asks_joined f (expr_code homes e rd) (args_code homes args (rd + 1)) (value_asks homes Named f slots rd e most some
+    (omega (arith, few)) parts.0 (named_left Named (expr_uses e) (args_uses args) named))
+    (args_ask homes Named f slots args (rd + 1) most (omega arith) (omega (arith, few)) parts.1
+    (named_right Named (expr_uses e) (args_uses args) named))
 
 -- bundles that reach the stack alone
-near_lone : (Named : Use → Type 0) (f : ℕ → List Step) (bs : List Slots) → list_all is_near bs ≡ true → AsksOnly Named (parts_trail f (one (straight bs)))
+near_lone : (Named : Use → Type 0) (f : ℕ → List Step) (bs : List Slots) → list_all is_near bs ≡ true
+    → AsksOnly Named (parts_trail f (one (straight bs)))
 near_lone Named f bs near = asks_lone f bs (near_asks Named bs near)
 
 alu_near : (g : Guard) (op : Op) → is_alu op ≡ true → is_near (under g op) ≡ true
 alu_near g op alu = grind (arith, alu)
 
-target_asks : (homes : Homes) (Named : Use → Type 0) (f : ℕ → List Step) (slots mask : ℕ) (target : PlainSpTarget) → slots ≤ 128 → target_formed slots target ≡ true → AreNamed Named (target_uses target) → AsksOnly Named (parts_trail f (target_write homes mask target))
-target_asks homes Named f slots mask (to_slot slot) most formed named = near_lone Named f (slot_write homes mask slot) (rw (near_seek homes mask, near_match homes mask, near_set homes.first (where_so (told_at homes mask)) slot FIRST) refl)
-target_asks homes Named f slots mask (to_cell cell) most formed named = asks_lone f (cell_write homes mask cell) (cell_write_asks homes Named mask cell formed named.0)
+target_asks : (homes : Homes) (Named : Use → Type 0) (f : ℕ → List Step) (slots mask : ℕ) (target : PlainSpTarget)
+    → slots ≤ 128 → target_formed slots target ≡ true → AreNamed Named (target_uses target)
+    → AsksOnly Named (parts_trail f (target_write homes mask target))
+target_asks homes Named f slots mask (to_slot slot) most formed named =
+    near_lone Named f (slot_write homes mask slot) (rw (
+      near_seek homes mask,
+      near_match homes mask,
+      near_set homes.first (where_so (told_at homes mask)) slot FIRST,
+    ) refl)
+target_asks homes Named f slots mask (to_cell cell) most formed named =
+    asks_lone f (cell_write homes mask cell) (cell_write_asks homes Named mask cell formed named.0)
 target_asks homes Named f slots mask (to_array array index) most formed named =
     let parts = and_parts (array_formed array) (expr_formed slots index) formed in
-    asks_joined f (expr_code homes index (FIRST + 1)) (one (straight (element_write homes mask array))) (value_asks homes Named f slots (FIRST + 1) index most (omega arith) (omega arith) parts.1 named.1)
+    asks_joined f (expr_code homes index (FIRST + 1)) (one (straight (element_write homes mask array)))
+    (value_asks homes Named f slots (FIRST + 1) index most (omega arith) (omega arith) parts.1 named.1)
     (asks_lone f (element_write homes mask array) (element_write_asks homes Named mask array parts.0 named.0))
 
 -- ---- statements, over what earlier functions ask for
 
 near_handed : (homes : Homes) (mask : ℕ) → list_all is_near (mask_handed homes mask) ≡ true
-near_handed homes mask = handed_is (λ bs. list_all is_near bs ≡ true) homes mask (λ p is. refl) (λ none. rw (near_read homes.first MASK mask) refl)
+near_handed homes mask = handed_is (λ bs. list_all is_near bs ≡ true) homes mask (λ p is. refl)
+    (λ none. rw (near_read homes.first MASK mask) refl)
 
-call_near : (homes : Homes) (frame mask k : ℕ) (result : Option ℕ) → parts_all is_near (call_code homes frame mask k result) ≡ true
+call_near : (homes : Homes) (frame mask k : ℕ) (result : Option ℕ)
+    → parts_all is_near (call_code homes frame mask k result) ≡ true
 call_near homes frame mask k None = rw (near_handed homes mask) refl
-call_near homes frame mask k (Some slot) = rw (near_handed homes mask, near_seek homes mask, near_match homes mask, near_set homes.first (where_so (told_at homes mask)) slot RESULT) refl
+call_near homes frame mask k (Some slot) = rw (
+  near_handed homes mask,
+  near_seek homes mask,
+  near_match homes mask,
+  near_set homes.first (where_so (told_at homes mask)) slot RESULT,
+) refl
 
 mutual
-  stmt_asks : (homes : Homes) (Named : Use → Type 0) (f : ℕ → List Step) (fs : List PlainFunction) (number slots frame counter : ℕ) → ((k : ℕ) → k < number → AsksOnly Named (f k)) → functions_formed fs number ≡ true → slots ≤ 128 → 1 ≤ homes.first
-      → (t : PlainStmt) → stmt_formed fs number slots t ≡ true → AreNamed Named (stmt_uses t) → AsksOnly Named (parts_trail f (stmt_code homes frame counter t))
+  stmt_asks : (homes : Homes) (Named : Use → Type 0) (f : ℕ → List Step) (fs : List PlainFunction)
+      (number slots frame counter : ℕ) → ((k : ℕ) → k < number → AsksOnly Named (f k)) → functions_formed fs number
+      ≡ true → slots ≤ 128 → 1 ≤ homes.first
+      → (t : PlainStmt) → stmt_formed fs number slots t ≡ true → AreNamed Named (stmt_uses t)
+      → AsksOnly Named (parts_trail f (stmt_code homes frame counter t))
   stmt_asks homes Named f fs number slots frame counter called earlier most some (masks slot e) formed named =
       let parts = and_parts (nat_lt slot slots) (expr_formed slots e) formed in
       mask_is (λ ps. AsksOnly Named (parts_trail f ps)) homes slot e
       (λ p is. flag_asks homes Named f p e (expr_fits slots FIRST e most (omega arith) parts.1) named)
-      (λ plain here. expr_asks homes Named f e FIRST (homes.first + slot) (omega (arith, some)) (ltb-true (homes.first + slot) OVERRUN here) (omega arith) (expr_fits slots FIRST e most (omega arith) parts.1) named)
-      (λ plain there. asks_joined f (expr_code homes e FIRST) (slot_set homes.first slot) (value_asks homes Named f slots FIRST e most (omega arith) (omega arith) parts.1 named) (near_lone Named f (set_word homes.first always slot FIRST ∷ []) (rw (near_set homes.first always slot FIRST) refl)))
+      (λ plain here. expr_asks homes Named f e FIRST (homes.first + slot) (omega (arith, some))
+      (ltb-true (homes.first + slot) OVERRUN here) (omega arith) (expr_fits slots FIRST e most
+      (omega arith) parts.1) named)
+      (λ plain there. asks_joined f (expr_code homes e FIRST) (slot_set homes.first slot)
+      (value_asks homes Named f slots FIRST e most (omega arith) (omega arith) parts.1 named)
+      (near_lone Named f (set_word homes.first always slot FIRST ∷ [])
+      (rw (near_set homes.first always slot FIRST) refl)))
   stmt_asks homes Named f fs number slots frame counter called earlier most some (writes mask target e) formed named =
       let parts = and_parts (nat_lt mask slots) (target_formed slots target && expr_formed slots e) formed in
       let targets = and_parts (target_formed slots target) (expr_formed slots e) parts.1 in
       let uses = named_right Named (target_uses target) (expr_uses e) named in
       write_is (λ ps. AsksOnly Named (parts_trail f ps)) homes mask target e
-      (asks_joined f (expr_code homes e FIRST) (target_write homes mask target) (value_asks homes Named f slots FIRST e most (omega arith) (omega arith) targets.1 uses) (target_asks homes Named f slots mask target most targets.0 (named_left Named (target_uses target) (expr_uses e) named)))
-      (λ slot op is gives. let last = mask_test homes mask ++ under (where_so (told_at homes mask)) op ∷ [] in asks_joined f (operands_code homes e FIRST) (one (straight last))
-      (operands_ask homes Named f e FIRST (omega arith) (expr_fits slots FIRST e most (omega arith) targets.1) uses) (near_lone Named f last (rw (near_seek homes mask, near_match homes mask, alu_near (where_so (told_at homes mask)) op gives.alu) refl)))
-  stmt_asks homes Named f fs number slots frame counter called earlier most some (calls mask k args result) formed named =
-      let a = and_parts (nat_lt mask slots) (callee_formed fs number k (length args) && (args_formed slots args && result_formed slots result)) formed in
-      let b = and_parts (callee_formed fs number k (length args)) (args_formed slots args && result_formed slots result) a.1 in
+      (asks_joined f (expr_code homes e FIRST) (target_write homes mask target)
+      (value_asks homes Named f slots FIRST e most (omega arith) (omega arith) targets.1 uses)
+      (target_asks homes Named f slots mask target most targets.0 (named_left Named (target_uses target)
+      (expr_uses e) named)))
+      (λ slot op is gives. let last = mask_test homes mask ++ under (where_so (told_at homes mask)) op ∷ [] in
+      asks_joined f (operands_code homes e FIRST) (one (straight last))
+      (operands_ask homes Named f e FIRST (omega arith) (expr_fits slots FIRST e most (omega arith) targets.1) uses)
+      (near_lone Named f last (rw (
+        near_seek homes mask,
+        near_match homes mask,
+        alu_near (where_so (told_at homes mask)) op gives.alu,
+      ) refl)))
+  stmt_asks homes Named f fs number slots frame counter called earlier most some
+      (calls mask k args result) formed named =
+      let a = and_parts (nat_lt mask slots) (callee_formed fs number k (length args)
+      && (args_formed slots args && result_formed slots result)) formed in
+      let b = and_parts (callee_formed fs number k (length args)) (args_formed slots args && result_formed slots result)
+      a.1 in
       let callee = and_parts (nat_lt k number) (length args == (slice_index_or fs k no_function).parameters) b.0 in
       let c = and_parts (args_formed slots args) (result_formed slots result) b.1 in
-      let few = (parts_of_function fs k (slice_index_or fs k no_function) (earlier_one fs k number (ltb-true k number callee.0) earlier)).parameters in
+      let few = (parts_of_function fs k (slice_index_or fs k no_function)
+      (earlier_one fs k number (ltb-true k number callee.0) earlier)).parameters in
       asks_joined f (args_code homes args FIRST) (call_code homes frame mask k result)
-      (args_ask homes Named f slots args FIRST most (omega arith) (omega (arith, few, eqb-true (length args) (slice_index_or fs k no_function).parameters callee.1)) c.0 named)
-      (near_parts Named f number called (call_code homes frame mask k result) (call_formed homes number frame mask k result callee.0) (call_near homes frame mask k result))
-  stmt_asks homes Named f fs number slots frame counter called earlier most some (transfers mask core source target count) formed named =
+      (args_ask homes Named f slots args FIRST most (omega arith)
+      (omega (arith, few, eqb-true (length args) (slice_index_or fs k no_function).parameters callee.1)) c.0 named)
+      (near_parts Named f number called (call_code homes frame mask k result)
+      (call_formed homes number frame mask k result callee.0) (call_near homes frame mask k result))
+  stmt_asks homes Named f fs number slots frame counter called earlier most some
+      (transfers mask core source target count) formed named =
       let parts = and_parts (nat_lt mask slots) (send_formed slots core source target count) formed in
-      let send = and_parts (nat_lt core 16) (expr_formed slots source && (expr_formed slots target && expr_formed slots count)) parts.1 in
+      let send = and_parts (nat_lt core 16)
+      (expr_formed slots source && (expr_formed slots target && expr_formed slots count)) parts.1 in
       let first = and_parts (expr_formed slots source) (expr_formed slots target && expr_formed slots count) send.1 in
       let rest = and_parts (expr_formed slots target) (expr_formed slots count) first.1 in
       let behind = named_right Named (expr_uses source) (expr_uses target ++ expr_uses count) named.1 in
       let sent = one (straight (send_code homes mask core)) in
-      asks_joined f (expr_code homes source FIRST) (joined (expr_code homes target (FIRST + 1)) (joined (expr_code homes count (FIRST + 2)) sent))
-      (value_asks homes Named f slots FIRST source most (omega arith) (omega arith) first.0 (named_left Named (expr_uses source) (expr_uses target ++ expr_uses count) named.1))
-      (asks_joined f (expr_code homes target (FIRST + 1)) (joined (expr_code homes count (FIRST + 2)) sent) (value_asks homes Named f slots (FIRST + 1) target most (omega arith) (omega arith) rest.0 (named_left Named (expr_uses target) (expr_uses count) behind))
-      (asks_joined f (expr_code homes count (FIRST + 2)) sent (value_asks homes Named f slots (FIRST + 2) count most (omega arith) (omega arith) rest.1 (named_right Named (expr_uses target) (expr_uses count) behind))
+      asks_joined f (expr_code homes source FIRST) (joined (expr_code homes target (FIRST + 1))
+      (joined (expr_code homes count (FIRST + 2)) sent))
+      (value_asks homes Named f slots FIRST source most (omega arith) (omega arith) first.0
+      (named_left Named (expr_uses source) (expr_uses target ++ expr_uses count) named.1))
+      (asks_joined f (expr_code homes target (FIRST + 1)) (joined (expr_code homes count (FIRST + 2)) sent)
+      (value_asks homes Named f slots (FIRST + 1) target most (omega arith) (omega arith) rest.0
+      (named_left Named (expr_uses target) (expr_uses count) behind))
+      (asks_joined f (expr_code homes count (FIRST + 2)) sent (value_asks homes Named f slots (FIRST + 2) count most
+      (omega arith) (omega arith) rest.1 (named_right Named (expr_uses target) (expr_uses count) behind))
       (asks_lone f (send_code homes mask core) (send_asks homes Named mask core (ltb-true core 16 send.0) named.0))))
   stmt_asks homes Named f fs number slots frame counter called earlier most some (overruns mask e) formed named =
       let parts = and_parts (nat_lt mask slots) (expr_formed slots e) formed in
-      asks_joined f (expr_code homes e FIRST) (one (straight (overrun_code homes mask))) (value_asks homes Named f slots FIRST e most (omega arith) (omega arith) parts.1 named) (near_lone Named f (overrun_code homes mask) (rw (near_seek homes mask, near_match homes mask) refl))
+      asks_joined f (expr_code homes e FIRST) (one (straight (overrun_code homes mask)))
+      (value_asks homes Named f slots FIRST e most (omega arith) (omega arith) parts.1 named)
+      (near_lone Named f (overrun_code homes mask) (rw (near_seek homes mask, near_match homes mask) refl))
   stmt_asks homes Named f fs number slots frame counter called earlier most some (iterations count body) formed named =
       let parts = and_parts (nat_lt 0 count) (stmts_formed fs number slots body) formed in
       let code = stmts_code homes frame (counter - 1) body in
       let kept = near_keep homes.first counter in
-      asks_append (near_asks Named (iterations_begin homes.first counter count) (rw (near_number (fetched_at homes.first counter) count, kept) refl))
-      (asks_append (asks_copies count (parts_trail f code ++ all_done (iterations_tail homes.first counter)) (asks_append (stmts_ask homes Named f fs number slots frame (counter - 1) called earlier most some body parts.1 named) (near_asks Named (iterations_tail homes.first counter) (rw (near_fetch homes.first counter, kept) refl)))) (asks_nothing Named))
+      asks_append (near_asks Named (iterations_begin homes.first counter count)
+      (rw (near_number (fetched_at homes.first counter) count, kept) refl))
+      (asks_append (asks_copies count (parts_trail f code ++ all_done (iterations_tail homes.first counter))
+      (asks_append (stmts_ask homes Named f fs number slots frame (counter - 1) called earlier most some body
+      parts.1 named) (near_asks Named (iterations_tail homes.first counter)
+      (rw (near_fetch homes.first counter, kept) refl)))) (asks_nothing Named))
 
-  stmts_ask : (homes : Homes) (Named : Use → Type 0) (f : ℕ → List Step) (fs : List PlainFunction) (number slots frame counter : ℕ) → ((k : ℕ) → k < number → AsksOnly Named (f k)) → functions_formed fs number ≡ true → slots ≤ 128 → 1 ≤ homes.first
-      → (ts : PlainStmts) → stmts_formed fs number slots ts ≡ true → AreNamed Named (stmts_uses ts) → AsksOnly Named (parts_trail f (stmts_code homes frame counter ts))
-  stmts_ask homes Named f fs number slots frame counter called earlier most some no_stmt formed named = asks_nothing Named
+  stmts_ask : (homes : Homes) (Named : Use → Type 0) (f : ℕ → List Step) (fs : List PlainFunction)
+      (number slots frame counter : ℕ) → ((k : ℕ) → k < number → AsksOnly Named (f k)) → functions_formed fs number
+      ≡ true → slots ≤ 128 → 1 ≤ homes.first
+      → (ts : PlainStmts) → stmts_formed fs number slots ts ≡ true → AreNamed Named (stmts_uses ts)
+      → AsksOnly Named (parts_trail f (stmts_code homes frame counter ts))
+  stmts_ask homes Named f fs number slots frame counter called earlier most some no_stmt formed named =
+      asks_nothing Named
   stmts_ask homes Named f fs number slots frame counter called earlier most some (stmt t rest) formed named =
       let parts = and_parts (stmt_formed fs number slots t) (stmts_formed fs number slots rest) formed in
-      asks_joined f (stmt_code homes frame counter t) (stmts_code homes frame counter rest) (stmt_asks homes Named f fs number slots frame counter called earlier most some t parts.0 (named_left Named (stmt_uses t) (stmts_uses rest) named))
-      (stmts_ask homes Named f fs number slots frame counter called earlier most some rest parts.1 (named_right Named (stmt_uses t) (stmts_uses rest) named))
+      asks_joined f (stmt_code homes frame counter t) (stmts_code homes frame counter rest)
+      (stmt_asks homes Named f fs number slots frame counter called earlier most some t parts.0
+      (named_left Named (stmt_uses t) (stmts_uses rest) named))
+      (stmts_ask homes Named f fs number slots frame counter called earlier most some rest parts.1
+      (named_right Named (stmt_uses t) (stmts_uses rest) named))
 
 -- ---- functions
 
-begun_named : (Named : Use → Type 0) (flags : Flags) (f : PlainFunction) → AreNamed Named (stmts_uses f.body) → AreNamed Named (stmts_uses (begun_body flags f))
+begun_named : (Named : Use → Type 0) (flags : Flags) (f : PlainFunction) → AreNamed Named (stmts_uses f.body)
+    → AreNamed Named (stmts_uses (begun_body flags f))
 begun_named Named flags f named = begun_is (λ ts. AreNamed Named (stmts_uses ts)) flags f named (behind f.body named)
   where
     behind : (ts : PlainStmts) → AreNamed Named (stmts_uses ts) → AreNamed Named (stmts_uses (behind_first ts))
     behind no_stmt named = named
     behind (stmt t rest) named = named_right Named (stmt_uses t) (stmts_uses rest) named
 
-function_asks : (homes : Homes) (Named : Use → Type 0) (code : ℕ → List Step) (fs : List PlainFunction) (number : ℕ) (f : PlainFunction) → ((k : ℕ) → k < number → AsksOnly Named (code k)) → functions_formed fs number ≡ true → function_formed fs number f ≡ true → 1 ≤ homes.first
+function_asks : (homes : Homes) (Named : Use → Type 0) (code : ℕ → List Step) (fs : List PlainFunction) (number : ℕ)
+    (f : PlainFunction) → ((k : ℕ) → k < number → AsksOnly Named (code k)) → functions_formed fs number ≡ true
+    → function_formed fs number f ≡ true → 1 ≤ homes.first
     → AreNamed Named (stmts_uses f.body) → AsksOnly Named (parts_trail code (function_code homes f))
 function_asks homes Named code fs number f called earlier formed some named =
     let p = parts_of_function fs number f formed in
     let body = begun_body homes.flags f in
-    asks_append (near_asks Named (function_begin homes f) (begin_all is_near homes f refl (λ r. refl) (λ slot rs. near_set homes.first always slot rs) refl (λ slot p is. refl) (λ p is. refl) refl))
-    (asks_joined code (stmts_code homes (frame_words homes.first f) (first_counter f) body) (function_rest homes.first f) (stmts_ask homes Named code fs number (slots_of f) (frame_words homes.first f) (first_counter f) called earlier (omega (arith, p.room, p.frame)) some body (begun_formed homes.flags fs number (slots_of f) f p.body) (begun_named Named homes.flags f named))
-    (asks_append (near_asks Named (function_end homes.first f) (end_all is_near homes.first f refl (near_read homes.first RESULT f.result) refl refl)) (asks_append (near_asks Named return_tail refl) (asks_nothing Named))))
+    asks_append (near_asks Named (function_begin homes f) (begin_all is_near homes f refl (λ r. refl)
+    (λ slot rs. near_set homes.first always slot rs) refl (λ slot p is. refl) (λ p is. refl) refl))
+    (asks_joined code (stmts_code homes (frame_words homes.first f) (first_counter f) body)
+    (function_rest homes.first f) (stmts_ask homes Named code fs number (slots_of f) (frame_words homes.first f)
+    (first_counter f) called earlier (omega (arith, p.room, p.frame)) some body
+    (begun_formed homes.flags fs number (slots_of f) f p.body) (begun_named Named homes.flags f named))
+    (asks_append (near_asks Named (function_end homes.first f) (end_all is_near homes.first f refl
+    (near_read homes.first RESULT f.result) refl refl)) (asks_append (near_asks Named return_tail refl)
+    (asks_nothing Named))))
 
 -- what is said of all uses is said of each function's
-function_named : (Named : Use → Type 0) (fs : List PlainFunction) (k : ℕ) → AreNamed Named (functions_uses fs) → k < length fs → AreNamed Named (stmts_uses (slice_index_or fs k no_function).body)
+function_named : (Named : Use → Type 0) (fs : List PlainFunction) (k : ℕ) → AreNamed Named (functions_uses fs)
+    → k < length fs → AreNamed Named (stmts_uses (slice_index_or fs k no_function).body)
 function_named Named [] k named less = absurd (omega (arith, less))
 function_named Named (f ∷ fs) zero named less = named_left Named (stmts_uses f.body) (functions_uses fs) named
-function_named Named (f ∷ fs) (suc k) named less = function_named Named fs k (named_right Named (stmts_uses f.body) (functions_uses fs) named) (omega (arith, less))
+function_named Named (f ∷ fs) (suc k) named less =
+    function_named Named fs k (named_right Named (stmts_uses f.body) (functions_uses fs) named) (omega (arith, less))
 
-functions_ask : (Named : Use → Type 0) (fs : List PlainFunction) → AreNamed Named (functions_uses fs) → (n : ℕ) → n ≤ length fs → functions_formed fs n ≡ true → (k : ℕ) → k < n → AsksOnly Named (code_of fs n k)
+functions_ask : (Named : Use → Type 0) (fs : List PlainFunction) → AreNamed Named (functions_uses fs) → (n : ℕ)
+    → n ≤ length fs → functions_formed fs n ≡ true → (k : ℕ) → k < n → AsksOnly Named (code_of fs n k)
 functions_ask Named fs named zero within formed k less = absurd (omega (arith, less))
 functions_ask Named fs named (suc n) within formed k less =
     let parts = and_parts (functions_formed fs n) (function_formed fs n (slice_index_or fs n no_function)) formed in
     by parts.0 parts.1 (functions_ask Named fs named n (omega (arith, within)) parts.0) (k == n) refl
   where
-    by : functions_formed fs n ≡ true → function_formed fs n (slice_index_or fs n no_function) ≡ true → ((j : ℕ) → j < n → AsksOnly Named (code_of fs n j)) → (b : Bool) → (k == n) ≡ b
-        → AsksOnly Named (if b then parts_trail (code_of fs n) (slice_index_or (codes fs) n no_part) else code_of fs n k)
+    by : functions_formed fs n ≡ true → function_formed fs n (slice_index_or fs n no_function) ≡ true
+        → ((j : ℕ) → j < n → AsksOnly Named (code_of fs n j)) → (b : Bool) → (k == n) ≡ b
+        → AsksOnly Named (if b then parts_trail (code_of fs n) (slice_index_or (codes fs) n no_part) else
+        code_of fs n k)
     by earlier own before true is =
         subst (λ c. AsksOnly Named (parts_trail (code_of fs n) c)) (sym (codes_at fs n (omega (arith, within))))
-        (function_asks (places_of fs n) Named (code_of fs n) fs n (slice_index_or fs n no_function) before earlier own (omega arith) (function_named Named fs n named (omega (arith, within))))
+        (function_asks (places_of fs n) Named (code_of fs n) fs n (slice_index_or fs n no_function) before earlier own
+        (omega arith) (function_named Named fs n named (omega (arith, within))))
     by earlier own before false other = before k (less_still (cases_lt k n))
       where
         less_still : (k < n) ⊎ (n ≤ k) → k < n
         less_still (inl lt) = lt
         less_still (inr ge) = absurd (eqb-false k n other (omega (arith, ge, less)))
 
-pub task_asks : (Named : Use → Type 0) (u : PlainUnit) → is_formed u ≡ true → All Named (uses_of u) → AsksOnly Named (trail (emitted u))
+pub task_asks : (Named : Use → Type 0) (u : PlainUnit) → is_formed u ≡ true → All Named (uses_of u)
+    → AsksOnly Named (trail (emitted u))
 task_asks Named u formed named =
     let a = and_parts (nat_le (length u.functions) 512) _ formed in
     let b = and_parts (functions_formed u.functions (length u.functions)) _ a.1 in
     let c = and_parts (entry_formed u) _ b.1 in
-    let d = and_parts (nat_lt u.entry (length u.functions)) ((slice_index_or u.functions u.entry no_function).parameters == 0) c.0 in
+    let d = and_parts (nat_lt u.entry (length u.functions)) ((slice_index_or u.functions u.entry no_function).parameters
+    == 0) c.0 in
     subst (λ n. AsksOnly Named (trails (codes u.functions) n u.entry)) (sym (codes_length u.functions))
-    (functions_ask Named u.functions (are_named Named (uses_of u) named) (length u.functions) (omega arith) b.0 u.entry (ltb-true u.entry (length u.functions) d.0))
+    (functions_ask Named u.functions (are_named Named (uses_of u) named) (length u.functions) (omega arith) b.0 u.entry
+    (ltb-true u.entry (length u.functions) d.0))

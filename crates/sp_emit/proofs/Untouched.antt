@@ -81,62 +81,91 @@ same_both (predicate p) m n t a b = b ∙ a
 apart : (rd r : ℕ) → not (rd == r) ≡ true → rd ≡ r → ⊥
 apart rd r other = eqb-false rd r (not-true (rd == r) other)
 
-by_register : (x : Operand) (rd v : ℕ) (m : Run) → IsThere x → IsWhole m → no_register x rd ≡ true → Same x m (with_written (write.Register rd v) m)
+by_register : (x : Operand) (rd v : ℕ) (m : Run) → IsThere x → IsWhole m → no_register x rd ≡ true
+    → Same x m (with_written (write.Register rd v) m)
 by_register (register r) rd v m there whole left = kept rd v r m whole there (apart rd r left)
 by_register (predicate p) rd v m there whole left = so_by_register rd v p m whole there
 
-by_predicate : (x : Operand) (pd : ℕ) (b : Bool) (m : Run) → IsThere x → IsWhole m → no_predicate x pd ≡ true → Same x m (with_written (write.Predicate pd b) m)
+by_predicate : (x : Operand) (pd : ℕ) (b : Bool) (m : Run) → IsThere x → IsWhole m → no_predicate x pd ≡ true
+    → Same x m (with_written (write.Predicate pd b) m)
 by_predicate (register r) pd b m there whole left = kept_by_pred pd b r m whole there
 by_predicate (predicate p) pd b m there whole left = so_kept pd b p m whole there (apart pd p left)
 
-by_product : (x : Operand) (low high : ℕ) (m : Run) → IsThere x → IsWhole m → Same x m (with_written (write.Product low high) m)
+by_product : (x : Operand) (low high : ℕ) (m : Run) → IsThere x → IsWhole m
+    → Same x m (with_written (write.Product low high) m)
 by_product (register r) low high m there whole = kept_by_product low high r m whole there
 by_product (predicate p) low high m there whole = so_by_product low high p m whole there
 
-by_special : (x : Operand) (s : WritableSpecial) (v : ℕ) (m : Run) → IsThere x → IsWhole m → no_special x s ≡ true → Same x m (with_written (write.Special s v) m)
+by_special : (x : Operand) (s : WritableSpecial) (v : ℕ) (m : Run) → IsThere x → IsWhole m → no_special x s ≡ true
+    → Same x m (with_written (write.Special s v) m)
 by_special (register r) s v m there whole left = kept_by_special s v r m whole there
 by_special (predicate p) special.S0 v m there whole left = absurd (true≢false (sym left))
 by_special (predicate p) s v m there whole left = so_left (write.Special s v) p m whole there (λ old. refl)
 
-by_load : (from : Sources) (x : Operand) (space : Mem) (rd address : ℕ) (m : Run) → IsThere x → IsWhole m → no_register x rd ≡ true → Same x m (loaded from space rd address m)
-by_load from (register r) space rd address m there whole left = by_register (register r) rd (word_given from space address m) m there whole left
-by_load from (predicate p) space rd address m there whole left = by_register (predicate p) rd (word_given from space address m) m there whole left
+by_load : (from : Sources) (x : Operand) (space : Mem) (rd address : ℕ) (m : Run) → IsThere x → IsWhole m
+    → no_register x rd ≡ true → Same x m (loaded from space rd address m)
+by_load from (register r) space rd address m there whole left =
+    by_register (register r) rd (word_given from space address m) m there whole left
+by_load from (predicate p) space rd address m there whole left =
+    by_register (predicate p) rd (word_given from space address m) m there whole left
 
 by_registers : (x : Operand) (m t : Run) → t.regs ≡ m.regs → Same x m t
 by_registers (register r) m t same = ap (λ regs. word_in regs r) same
 by_registers (predicate p) m t same = ap (λ regs. pred_in regs p) same
 
 -- one whose guard is true
-left_on : (from : Sources) (x : Operand) (g : Guard) (op : Op) (m : Run) → IsThere x → IsWhole m → leaves_op x op ≡ true → holds m.regs g ≡ true → Same x m (once from (under g op) m)
-left_on from x g (AluImm func rd ra imm) m there whole left on = subst (Same x m) (sym (did_write from g (AluImm func rd ra imm) m whole on refl refl)) (by_register x rd _ m there whole left)
-left_on from x g (AluReg func rd ra rb) m there whole left on = subst (Same x m) (sym (did_write from g (AluReg func rd ra rb) m whole on refl refl)) (by_register x rd _ m there whole left)
-left_on from x g (AluLong func rd ra constant) m there whole left on = subst (Same x m) (sym (did_write from g (AluLong func rd ra constant) m whole on refl refl)) (by_register x rd _ m there whole left)
-left_on from x g (FromSpecial rd special) m there whole left on = subst (Same x m) (sym (did_write from g (FromSpecial rd special) m whole on refl refl)) (by_register x rd _ m there whole left)
-left_on from x g (Load space load.Word rd ra imm) m there whole left on = subst (Same x m) (sym (did_load from g space rd ra imm m whole on)) (by_load from x space rd _ m there whole left)
+left_on : (from : Sources) (x : Operand) (g : Guard) (op : Op) (m : Run) → IsThere x → IsWhole m → leaves_op x op ≡ true
+    → holds m.regs g ≡ true → Same x m (once from (under g op) m)
+left_on from x g (AluImm func rd ra imm) m there whole left on =
+    subst (Same x m) (sym (did_write from g (AluImm func rd ra imm) m whole on refl refl))
+    (by_register x rd _ m there whole left)
+left_on from x g (AluReg func rd ra rb) m there whole left on =
+    subst (Same x m) (sym (did_write from g (AluReg func rd ra rb) m whole on refl refl))
+    (by_register x rd _ m there whole left)
+left_on from x g (AluLong func rd ra constant) m there whole left on =
+    subst (Same x m) (sym (did_write from g (AluLong func rd ra constant) m whole on refl refl))
+    (by_register x rd _ m there whole left)
+left_on from x g (FromSpecial rd special) m there whole left on =
+    subst (Same x m) (sym (did_write from g (FromSpecial rd special) m whole on refl refl))
+    (by_register x rd _ m there whole left)
+left_on from x g (Load space load.Word rd ra imm) m there whole left on =
+    subst (Same x m) (sym (did_load from g space rd ra imm m whole on)) (by_load from x space rd _ m there whole left)
 left_on from x g (Load space _ rd ra imm) m there whole left on = absurd (true≢false (sym left))
-left_on from x g (Mul unsigned ra rb) m there whole left on = subst (Same x m) (sym (did_multiply from g unsigned ra rb m whole on)) (by_product x _ _ m there whole)
-left_on from x g (Cmp func pd ra rb) m there whole left on = subst (Same x m) (sym (did_write from g (Cmp func pd ra rb) m whole on refl refl)) (by_predicate x pd _ m there whole left)
-left_on from x g (CmpImm func pd ra imm) m there whole left on = subst (Same x m) (sym (did_write from g (CmpImm func pd ra imm) m whole on refl refl)) (by_predicate x pd _ m there whole left)
-left_on from x g (Comb func pd a b) m there whole left on = subst (Same x m) (sym (did_write from g (Comb func pd a b) m whole on refl refl)) (by_predicate x pd _ m there whole left)
-left_on from x g (ToSpecial s ra) m there whole left on = subst (Same x m) (sym (did_write from g (ToSpecial s ra) m whole on refl refl)) (by_special x s _ m there whole left)
-left_on from x g other m there whole left on = by_registers x m (once from (under g other) m) (regs_stay from g other m whole on refl refl refl)
+left_on from x g (Mul unsigned ra rb) m there whole left on =
+    subst (Same x m) (sym (did_multiply from g unsigned ra rb m whole on)) (by_product x _ _ m there whole)
+left_on from x g (Cmp func pd ra rb) m there whole left on = subst (Same x m)
+    (sym (did_write from g (Cmp func pd ra rb) m whole on refl refl)) (by_predicate x pd _ m there whole left)
+left_on from x g (CmpImm func pd ra imm) m there whole left on =
+    subst (Same x m) (sym (did_write from g (CmpImm func pd ra imm) m whole on refl refl))
+    (by_predicate x pd _ m there whole left)
+left_on from x g (Comb func pd a b) m there whole left on = subst (Same x m)
+    (sym (did_write from g (Comb func pd a b) m whole on refl refl)) (by_predicate x pd _ m there whole left)
+left_on from x g (ToSpecial s ra) m there whole left on = subst (Same x m)
+    (sym (did_write from g (ToSpecial s ra) m whole on refl refl)) (by_special x s _ m there whole left)
+left_on from x g other m there whole left on =
+    by_registers x m (once from (under g other) m) (regs_stay from g other m whole on refl refl refl)
 
-pub left_once : (from : Sources) (x : Operand) (b : Slots) (m : Run) → IsThere x → IsWhole m → leaves x b ≡ true → Same x m (once from b m)
+pub left_once : (from : Sources) (x : Operand) (b : Slots) (m : Run) → IsThere x → IsWhole m → leaves x b ≡ true
+    → Same x m (once from b m)
 left_once from x b m there whole left =
     let both = and_parts (leaves_op x b.first.op) (is_none b.second) left in
     by b.second both.1 (alone both.0 (holds m.regs b.first.guard) refl)
   where
-    alone : leaves_op x b.first.op ≡ true → (on : Bool) → holds m.regs b.first.guard ≡ on → Same x m (once from (under b.first.guard b.first.op) m)
+    alone : leaves_op x b.first.op ≡ true → (on : Bool) → holds m.regs b.first.guard ≡ on
+        → Same x m (once from (under b.first.guard b.first.op) m)
     alone lone true on = left_on from x b.first.guard b.first.op m there whole lone on
     alone lone false off = subst (Same x m) (sym (did_nothing from b.first.guard b.first.op m whole off)) (same_all x m)
 
-    by : (second : Option Instr) → is_none second ≡ true → Same x m (once from (under b.first.guard b.first.op) m) → Same x m (once from (record { first = b.first; second = second }) m)
+    by : (second : Option Instr) → is_none second ≡ true → Same x m (once from (under b.first.guard b.first.op) m)
+        → Same x m (once from (record { first = b.first; second = second }) m)
     by None none h = h
     by (Some i) none h = absurd (true≢false (sym none))
 
-pub left_run : (from : Sources) (x : Operand) (bs : List Slots) (m : Run) → IsThere x → IsWhole m → list_all (leaves x) bs ≡ true → Same x m (run from (all_done bs) m)
+pub left_run : (from : Sources) (x : Operand) (bs : List Slots) (m : Run) → IsThere x → IsWhole m
+    → list_all (leaves x) bs ≡ true → Same x m (run from (all_done bs) m)
 left_run from x [] m there whole left = same_all x m
 left_run from x (b ∷ bs) m there whole left =
     let both = and_parts (leaves x b) (list_all (leaves x) bs) left in
-    let whole_behind = once_whole from b m whole in
-    same_both x m (once from b m) _ (left_once from x b m there whole both.0) (left_run from x bs (once from b m) there whole_behind both.1)
+    let whole_after = once_whole from b m whole in
+    same_both x m (once from b m) _ (left_once from x b m there whole both.0)
+    (left_run from x bs (once from b m) there whole_after both.1)

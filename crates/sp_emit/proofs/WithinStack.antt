@@ -34,23 +34,41 @@ use Rattle.sp_emit.proofs.WordPlaces.{Outside}
 
 -- ---- before and after the body
 
-arguments_inside : (homes : Homes) (slots frame n : ℕ) → n ≤ slots → Outside homes.first slots frame → list_all (is_inside frame) (arguments_kept homes.first n) ≡ true
+arguments_inside : (homes : Homes) (slots frame n : ℕ) → n ≤ slots → Outside homes.first slots frame
+    → list_all (is_inside frame) (arguments_kept homes.first n) ≡ true
 arguments_inside homes slots frame zero le out = refl
-arguments_inside homes slots frame (suc n) le out = all_append (is_inside frame) (arguments_kept homes.first n) (argument_kept homes.first n) (arguments_inside homes slots frame n (omega (arith, le)) out) (rw (set_inside frame homes.first always n (FIRST + n) (out n le)) refl)
+arguments_inside homes slots frame (suc n) le out = all_append (is_inside frame) (arguments_kept homes.first n)
+    (argument_kept homes.first n) (arguments_inside homes slots frame n (omega (arith, le)) out)
+    (rw (set_inside frame homes.first always n (FIRST + n) (out n le)) refl)
 
-state_inside : (homes : Homes) (frame : ℕ) (f : PlainFunction) → f.mask < slots_of f → Outside homes.first (slots_of f) frame → (stmts_call f.body ≡ true → base_slot homes.first f + 2 ≤ frame) → list_all (is_inside frame) (state_kept homes f) ≡ true
+state_inside : (homes : Homes) (frame : ℕ) (f : PlainFunction) → f.mask < slots_of f
+    → Outside homes.first (slots_of f) frame → (stmts_call f.body ≡ true → base_slot homes.first f + 2 ≤ frame)
+    → list_all (is_inside frame) (state_kept homes f) ≡ true
 state_inside homes frame f mask out room =
     all_append (is_inside frame) (mask_kept homes f) (place_kept homes.first f) (by (flag_of homes.flags f.mask))
-    (kept_is (λ bs. list_all (is_inside frame) bs ≡ true) homes.first f (λ has. rw (lt-ltb (base_slot homes.first f) frame (omega (arith, room has)), lt-ltb (offset_slot homes.first f) frame (omega (arith, room has))) refl) refl)
+    (kept_is (λ bs. list_all (is_inside frame) bs ≡ true) homes.first f
+    (λ has. rw (
+      lt-ltb (base_slot homes.first f) frame (omega (arith, room has)),
+      lt-ltb (offset_slot homes.first f)
+          frame (omega (arith, room has)),
+    ) refl) refl)
   where
     by : (o : Option ℕ) → list_all (is_inside frame) (mask_in o homes.first f.mask) ≡ true
     by None = rw (set_inside frame homes.first always f.mask MASK (out f.mask mask)) refl
     by (Some p) = refl
 
-end_inside : (homes frame : ℕ) (f : PlainFunction) → f.result < slots_of f → Outside homes (slots_of f) frame → (stmts_call f.body ≡ true → base_slot homes f + 2 ≤ frame) → list_all (is_inside frame) (given_back homes f) ≡ true
+end_inside : (homes frame : ℕ) (f : PlainFunction) → f.result < slots_of f → Outside homes (slots_of f) frame
+    → (stmts_call f.body ≡ true → base_slot homes f + 2 ≤ frame) → list_all (is_inside frame) (given_back homes f)
+    ≡ true
 end_inside homes frame f result out room =
     let read = read_inside frame homes RESULT f.result (out f.result result) in
-    brought_is (λ bs. list_all (is_inside frame) (bs ++ result_read homes f) ≡ true) homes f (λ has. rw (lt-ltb (base_slot homes f) frame (omega (arith, room has)), lt-ltb (offset_slot homes f) frame (omega (arith, room has)), read) refl) (rw (read) refl)
+    brought_is (λ bs. list_all (is_inside frame) (bs ++ result_read homes f) ≡ true) homes f
+    (λ has. rw (
+      lt-ltb (base_slot homes f) frame (omega (arith, room has)),
+      lt-ltb (offset_slot homes f) frame
+          (omega (arith, room has)),
+      read,
+    ) refl) (rw (read) refl)
 
 -- ---- functions
 
@@ -63,20 +81,29 @@ record Entered (frame : ℕ) (m t : Run) : Type 0 where
 entered_then : {frame : ℕ} {m n t : Run} → Entered frame m n → Stays frame n t → Entered frame m t
 entered_then a b = record { stays = b.framed; points = points_then a.points b.points; st = omega (arith, a.st, b.st) }
 
-takes : (from : Sources) (frame : ℕ) (m : Run) → IsWhole m → frame ≤ 128 → m.st ≤ 65536 → m.st ≤ m.ss → 49152 + frame ≤ m.st → Entered frame m (run from (all_done (words_taken frame)) m)
+takes : (from : Sources) (frame : ℕ) (m : Run) → IsWhole m → frame ≤ 128 → m.st ≤ 65536 → m.st ≤ m.ss → 49152 + frame
+    ≤ m.st → Entered frame m (run from (all_done (words_taken frame)) m)
 takes from zero m whole few high held enough = record {
   stays = record { whole = whole; few = omega arith; high = omega (arith, high); held = omega (arith, held) };
   points = points_none m m refl refl;
   st = omega arith;
 }
-takes from (suc n) m whole few high held enough = subst (Entered (suc n) m) (sym (did_stack from Sres (suc n) m whole)) (record {
-  stays = record { whole = record { fits = whole.fits; pending = whole.pending }; few = few; high = omega (arith, high, enough); held = omega (arith, held, few, enough) };
-  points = points_one (effect.StackOp Sres (suc n)) m _ refl (few, enough) refl;
-  st = omega (arith, enough);
-})
+takes from (suc n) m whole few high held enough =
+    subst (Entered (suc n) m) (sym (did_stack from Sres (suc n) m whole)) (record {
+      stays = record {
+        whole = record { fits = whole.fits; pending = whole.pending };
+        few = few;
+        high = omega (arith, high, enough);
+        held = omega (arith, held, few, enough);
+      };
+      points = points_one (effect.StackOp Sres (suc n)) m _ refl (few, enough) refl;
+      st = omega (arith, enough);
+    })
 
-frees : (from : Sources) (frame : ℕ) (m n : Run) → Entered frame m n → GivesBack m (run from (all_done (words_freed frame)) n)
-frees from zero m n x = record { points = x.points; whole = x.stays.whole; st = omega (arith, x.st); held = omega (arith, x.stays.held) }
+frees : (from : Sources) (frame : ℕ) (m n : Run) → Entered frame m n
+    → GivesBack m (run from (all_done (words_freed frame)) n)
+frees from zero m n x =
+    record { points = x.points; whole = x.stays.whole; st = omega (arith, x.st); held = omega (arith, x.stays.held) }
 frees from (suc k) m n x = subst (GivesBack m) (sym (did_stack from Sfree (suc k) n x.stays.whole)) (record {
   points = points_then x.points (points_one (effect.StackOp Sfree (suc k)) n _ refl (x.stays.few, x.stays.high) refl);
   whole = record { fits = x.stays.whole.fits; pending = x.stays.whole.pending };
@@ -85,69 +112,106 @@ frees from (suc k) m n x = subst (GivesBack m) (sym (did_stack from Sfree (suc k
 })
 
 -- bundles after the frame that ask for nothing of the stack
-gives_then : (from : Sources) (m n : Run) → GivesBack m n → m.st ≤ 65536 → GivesBack m (run from (all_done return_tail) n)
+gives_then : (from : Sources) (m n : Run) → GivesBack m n → m.st ≤ 65536
+    → GivesBack m (run from (all_done return_tail) n)
 gives_then from m n b high =
-    let s = inside_done from 0 return_tail n (record { whole = b.whole; few = omega arith; high = omega (arith, b.st, high); held = omega (arith, b.held) }) refl in
-    record { points = points_then b.points s.points; whole = s.framed.whole; st = s.st ∙ b.st; held = omega (arith, s.framed.held) }
+    let s = inside_done from 0 return_tail n (record {
+      whole = b.whole;
+      few = omega arith;
+      high = omega (arith, b.st, high);
+      held = omega (arith, b.held);
+    }) refl in
+    record {
+      points = points_then b.points s.points;
+      whole = s.framed.whole;
+      st = s.st ∙ b.st;
+      held = omega (arith, s.framed.held);
+    }
 
-function_stays : (homes : Homes) (from : Sources) (code : ℕ → List Step) (g : ℕ → ℕ) (fs : List PlainFunction) (number : ℕ) (f : PlainFunction) → function_formed fs number f ≡ true → CalleesStay from code number g
-    → (m : Run) → IsWhole m → m.st ≤ 65536 → m.st ≤ m.ss → 49152 + (f.frame + stmts_chain g f.body) ≤ m.st → GivesBack m (run from (parts_trail code (function_code homes f)) m)
+function_stays : (homes : Homes) (from : Sources) (code : ℕ → List Step) (g : ℕ → ℕ) (fs : List PlainFunction)
+    (number : ℕ) (f : PlainFunction) → function_formed fs number f ≡ true → CalleesStay from code number g
+    → (m : Run) → IsWhole m → m.st ≤ 65536 → m.st ≤ m.ss → 49152 + (f.frame + stmts_chain g f.body) ≤ m.st
+    → GivesBack m (run from (parts_trail code (function_code homes f)) m)
 function_stays homes from code g fs number f formed callees m whole high held enough =
     let p = parts_of_function fs number f formed in
     let n = frame_words homes.first f in
     let few = words_few homes.first f (omega (arith, p.room)) in
     let out = words_outside homes.first f (omega (arith, p.room)) in
-    let calls : stmts_call f.body ≡ true → base_slot homes.first f + 2 ≤ n = λ has. let is = words_called homes.first f has in omega (arith, is) in
+    let calls : stmts_call f.body ≡ true → base_slot homes.first f + 2 ≤ n =
+    λ has. let is = words_called homes.first f has in omega (arith, is) in
     let t0 = run from (all_done (frame_taken homes.first f)) m in
     let x0 = takes from n m whole (omega (arith, few, p.frame)) high held (omega (arith, few, enough)) in
-    let c = inside_done from n (words_cleared homes (slots_of f)) t0 x0.stays (cleared_all (is_inside n) homes (slots_of f) (λ slot p is. refl) (λ r. refl)) in
+    let c = inside_done from n (words_cleared homes (slots_of f)) t0 x0.stays (cleared_all (is_inside n) homes
+    (slots_of f) (λ slot p is. refl) (λ r. refl)) in
     let xc = entered_then x0 c in
     let tc = run from (all_done (words_cleared homes (slots_of f))) t0 in
-    let x1 = entered_then xc (inside_done from n (arguments_kept homes.first f.parameters) tc xc.stays (arguments_inside homes (slots_of f) n f.parameters (omega (arith, p.before_mask, p.mask)) out)) in
+    let x1 = entered_then xc (inside_done from n (arguments_kept homes.first f.parameters) tc xc.stays
+    (arguments_inside homes (slots_of f) n f.parameters (omega (arith, p.before_mask, p.mask)) out)) in
     let t1 = run from (all_done (arguments_kept homes.first f.parameters)) tc in
-    let x2 = entered_then x1 (inside_done from n (state_kept homes f) t1 x1.stays (state_inside homes n f p.mask out calls)) in
+    let x2 = entered_then x1 (inside_done from n (state_kept homes f) t1 x1.stays
+    (state_inside homes n f p.mask out calls)) in
     let t2 = run from (all_done (state_kept homes f)) t1 in
     let levels = begun_levels homes.flags f in
     let chain = begun_chain homes.flags g f in
-    let x3 = entered_then x2 (stmts_stay homes from code g fs number (slots_of f) n (first_counter f) callees (omega (arith, p.mask)) (omega (arith, p.room, p.mask)) (begun_body homes.flags f) (omega (arith, p.room, p.mask, levels))
-    (begun_formed homes.flags fs number (slots_of f) f p.body) t2 x2.stays (omega (arith, chain, x2.st, few, enough))) in
+    let x3 = entered_then x2 (stmts_stay homes from code g fs number (slots_of f) n (first_counter f) callees
+    (omega (arith, p.mask)) (omega (arith, p.room, p.mask)) (begun_body homes.flags f)
+    (omega (arith, p.room, p.mask, levels))
+    (begun_formed homes.flags fs number (slots_of f) f p.body) t2 x2.stays
+    (omega (arith, chain, x2.st, few, enough))) in
     let t3 = run from (parts_trail code (body_code homes f)) t2 in
-    let x4 = entered_then x3 (inside_done from n (given_back homes.first f) t3 x3.stays (end_inside homes.first n f p.result out calls)) in
+    let x4 = entered_then x3 (inside_done from n (given_back homes.first f) t3 x3.stays
+    (end_inside homes.first n f p.result out calls)) in
     let t4 = run from (all_done (given_back homes.first f)) t3 in
-    subst (GivesBack m) (sym (function_run homes from code f m ∙ ap (run from (all_done return_tail)) (end_run homes.first from f t3))) (gives_then from m (run from (all_done (frame_freed homes.first f)) t4) (frees from n m t4 x4) high)
+    subst (GivesBack m)
+    (sym (function_run homes from code f m ∙ ap (run from (all_done return_tail)) (end_run homes.first from f t3)))
+    (gives_then from m (run from (all_done (frame_freed homes.first f)) t4) (frees from n m t4 x4) high)
 
 -- ---- all of them, in order
 
-all_stay : (from : Sources) (fs : List PlainFunction) (n : ℕ) → n ≤ length fs → functions_formed fs n ≡ true → CalleesStay from (code_of fs n) n (chains fs n)
+all_stay : (from : Sources) (fs : List PlainFunction) (n : ℕ) → n ≤ length fs → functions_formed fs n ≡ true
+    → CalleesStay from (code_of fs n) n (chains fs n)
 all_stay from fs zero within formed = record { called = λ k less. absurd (omega (arith, less)) }
 all_stay from fs (suc n) within formed =
     let parts = and_parts (functions_formed fs n) (function_formed fs n (slice_index_or fs n no_function)) formed in
-    record { called = λ k less m whole high held enough. by parts.1 (all_stay from fs n (omega (arith, within)) parts.0) k less m whole high held (k == n) refl enough }
+    record {
+      called = λ k less m whole high held enough. by parts.1 (all_stay from fs n (omega (arith, within)) parts.0)
+          k less m whole high held (k == n) refl enough;
+    }
   where
     f : PlainFunction
     f = slice_index_or fs n no_function
 
-    by : function_formed fs n f ≡ true → CalleesStay from (code_of fs n) n (chains fs n) → (k : ℕ) → k < suc n → (m : Run) → IsWhole m → m.st ≤ 65536 → m.st ≤ m.ss → (b : Bool) → (k == n) ≡ b
+    by : function_formed fs n f ≡ true → CalleesStay from (code_of fs n) n (chains fs n) → (k : ℕ) → k < suc n
+        → (m : Run) → IsWhole m → m.st ≤ 65536 → m.st ≤ m.ss → (b : Bool) → (k == n) ≡ b
         → 49152 + (if b then f.frame + stmts_chain (chains fs n) f.body else chains fs n k) ≤ m.st
-        → GivesBack m (run from (if b then parts_trail (code_of fs n) (slice_index_or (codes fs) n no_part) else code_of fs n k) m)
+        → GivesBack m (run from (if b then parts_trail (code_of fs n) (slice_index_or (codes fs) n no_part) else
+        code_of fs n k) m)
     by own before k less m whole high held true is enough =
-        subst (λ c. GivesBack m (run from (parts_trail (code_of fs n) c) m)) (sym (codes_at fs n (omega (arith, within))))
+        subst (λ c. GivesBack m (run from (parts_trail (code_of fs n) c) m))
+        (sym (codes_at fs n (omega (arith, within))))
         (function_stays (places_of fs n) from (code_of fs n) (chains fs n) fs n f own before m whole high held enough)
-    by own before k less m whole high held false other enough = before.called k (earlier (cases_lt k n)) m whole high held enough
+    by own before k less m whole high held false other enough =
+        before.called k (earlier (cases_lt k n)) m whole high held enough
       where
         earlier : (k < n) ⊎ (n ≤ k) → k < n
         earlier (inl lt) = lt
         earlier (inr ge) = absurd (eqb-false k n other (omega (arith, ge, less)))
 
-pub task_stays : (u : PlainUnit) (from : Sources) (memory : Memory) (loads : List ℕ) (backs : List Back) → is_formed u ≡ true → 49152 + chains u.functions (length u.functions) u.entry ≤ 65536
-    → AreWithinStack (run from (trail (emitted u)) (at_begin memory loads backs)).asked (pointers_of (at_begin memory loads backs))
+pub task_stays : (u : PlainUnit) (from : Sources) (memory : Memory) (loads : List ℕ) (backs : List Back) → is_formed u
+    ≡ true → 49152 + chains u.functions (length u.functions) u.entry ≤ 65536
+    → AreWithinStack (run from (trail (emitted u)) (at_begin memory loads backs)).asked (pointers_of
+    (at_begin memory loads backs))
 task_stays u from memory loads backs formed few =
     let a = and_parts (nat_le (length u.functions) 512) _ formed in
     let b = and_parts (functions_formed u.functions (length u.functions)) _ a.1 in
     let c = and_parts (entry_formed u) _ b.1 in
-    let d = and_parts (nat_lt u.entry (length u.functions)) ((slice_index_or u.functions u.entry no_function).parameters == 0) c.0 in
+    let d = and_parts (nat_lt u.entry (length u.functions)) ((slice_index_or u.functions u.entry no_function).parameters
+    == 0) c.0 in
     let begin = at_begin memory loads backs in
-    let g = (all_stay from u.functions (length u.functions) (omega arith) b.0).called u.entry (ltb-true u.entry (length u.functions) d.0) begin
-    (record { fits = record { count = refl; pred_count = refl; zero = refl; always = refl }; pending = refl }) (omega arith) (omega arith) (omega (arith, few)) in
-    subst (λ n. AreWithinStack (run from (trails (codes u.functions) n u.entry) begin).asked (pointers_of begin)) (sym (codes_length u.functions))
+    let g = (all_stay from u.functions (length u.functions) (omega arith) b.0).called u.entry
+    (ltb-true u.entry (length u.functions) d.0) begin
+    (record { fits = record { count = refl; pred_count = refl; zero = refl; always = refl }; pending = refl })
+    (omega arith) (omega arith) (omega (arith, few)) in
+    subst (λ n. AreWithinStack (run from (trails (codes u.functions) n u.entry) begin).asked (pointers_of begin))
+    (sym (codes_length u.functions))
     (subst (λ l. AreWithinStack l (pointers_of begin)) (sym g.points.is) g.points.within)

@@ -62,16 +62,19 @@ region_word region.Private at w words = words.private at
 region_word region.Shared at w words = words.shared at
 
 -- an expression over words
-pub value_word : (slots : ℕ) (s : State) (e : PlainSp) → names_words slots e ≡ true → HasWordConstants e → HasWordFrame slots s → sp_value s.frame s.world e < 2 ^ 32
+pub value_word : (slots : ℕ) (s : State) (e : PlainSp) → names_words slots e ≡ true → HasWordConstants e
+    → HasWordFrame slots s → sp_value s.frame s.world e < 2 ^ 32
 value_word slots s (constant n) named small words = small
 value_word slots s (frame_word slot) named small words = words.frame slot (ltb-true slot slots named)
 value_word slots s (cell_word c) named small words = region_word c.region c.word s.world words.world
 value_word slots s (array_word a index) named small words = by (nat_lt (sp_value s.frame s.world index) a.length)
   where
-    by : (b : Bool) → (if b then world.word_at a.region (a.first + sp_value s.frame s.world index) s.world else 0) < 2 ^ 32
+    by : (b : Bool) → (if b then world.word_at a.region (a.first + sp_value s.frame s.world index) s.world else 0)
+        < 2 ^ 32
     by true = region_word a.region (a.first + sp_value s.frame s.world index) s.world words.world
     by false = omega arith
-value_word slots s (before_one op of) named small words = unary_word op (sp_value s.frame s.world of) (value_word slots s of named small words)
+value_word slots s (before_one op of) named small words =
+    unary_word op (sp_value s.frame s.world of) (value_word slots s of named small words)
 value_word slots s (between_two op a b) named small words =
     let both = and_parts (names_words slots a) (names_words slots b) named in
     binary_word op (sp_value s.frame s.world a) (sp_value s.frame s.world b)

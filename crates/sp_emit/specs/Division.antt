@@ -95,11 +95,11 @@ signed_rest_to rd = rest_to rd ++ with_sign rd ∷ []
 
 -- before and after the digits
 abbrev pub around : List Slots → List Slots → PlainParts
-around before behind = part (straight (before ++ highest_bit ∷ [])) (part digits (part (straight behind) no_part))
+around before after = part (straight (before ++ highest_bit ∷ [])) (part digits (part (straight after) no_part))
 
 abbrev pub unsigned_division : List Slots → ℕ → ℕ → PlainParts
-unsigned_division behind ra rb = around (operands ra rb) behind
+unsigned_division after ra rb = around (operands ra rb) after
 
 -- the digits leave SECOND as it is, so the sign that is asked for stands there: the rest's or the quotient's
 abbrev pub signed_division : ℕ → ℕ → List Slots → ℕ → ℕ → PlainParts
-signed_division rest quotient behind ra rb = around (operands ra rb ++ without_signs rest quotient) behind
+signed_division rest quotient after ra rb = around (operands ra rb ++ without_signs rest quotient) after

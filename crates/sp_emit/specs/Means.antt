@@ -74,7 +74,7 @@ pub record Follows (homes : Homes) (slots : ℕ) (s : State) (m : Run) : Type 0 
 
 -- a later state has the words of the stack after so many of the frame as they were, and the registers from the end of a
 -- window on
-pub record KeepsBehind (top count : ℕ) (m t : Run) : Type 0 where
+pub record KeepsAfter (top count : ℕ) (m t : Run) : Type 0 where
   pub st : t.st ≡ m.st
   pub stack : (a : ℕ) → m.st + count ≤ a → t.stack a ≡ m.stack a
   pub high : KeepsFrom top m t

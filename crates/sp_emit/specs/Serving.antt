@@ -11,7 +11,7 @@ use Rattle.sp_shape.specs.Trail.{parts_trail, trails}
 use Rattle.sp_emit.specs.Functions.{codes}
 use Rattle.sp_emit.specs.Statements.{stmts_code}
 use Rattle.sp_emit.specs.Holding.{held, so}
-use Rattle.sp_emit.specs.Means.{Follows, HasConstants, HasStmtsConstants, HasWords, HoldsWords, KeepsBehind}
+use Rattle.sp_emit.specs.Means.{Follows, HasConstants, HasStmtsConstants, HasWords, HoldsWords, KeepsAfter}
 use Rattle.sp_emit.specs.Flags.{AreAbove, stmts_hinder, stmts_spared, flag_tops, flag_top_of}
 use Rattle.sp_emit.specs.Places.{stack_word, word_of, shown_word, stmts_least, tops, top_of}
 use Rattle.sp_emit.specs.declared.registers.TheConstants.{RESULT, MASK, FIRST, OVERRUN, FLAGS}
@@ -88,7 +88,7 @@ pub record Unchanged (top used : ℕ) (m t : Run) : Type 0 where
 pub record OwnUnchanged (homes : Homes) (slots count : ℕ) (before after : ℕ → ℕ) (m t : Run) : Type 0 where
   pub world : WorldStands m t
   pub frame : (slot : ℕ) → slot < slots → after slot ≡ before slot → shown_word homes slot t ≡ shown_word homes slot m
-  pub behind : KeepsBehind (homes.first + count) (stack_word homes.first count) m t
+  pub behind : KeepsAfter (homes.first + count) (stack_word homes.first count) m t
 
 -- so it is of functions, each as it is called; and of statements
 pub record ChangeNoMore (fs : List PlainFunction) (n : ℕ) : Type 0 where

@@ -97,8 +97,8 @@ abbrev pub result_write : Homes → ℕ → Option ℕ → List Slots
 result_write homes mask None = []
 result_write homes mask (Some slot) = mask_test homes mask ++ set_word homes.first (where_so (told_at homes mask)) slot RESULT ∷ []
 
-abbrev pub behind_call : Homes → ℕ → ℕ → Option ℕ → List Slots
-behind_call homes frame mask result = stack_op Sens frame ∷ result_write homes mask result
+abbrev pub after_call : Homes → ℕ → ℕ → Option ℕ → List Slots
+after_call homes frame mask result = stack_op Sens frame ∷ result_write homes mask result
 
 abbrev pub way_to : ℕ → PlainPart
 way_to k = calls_to k call_tail
@@ -106,7 +106,7 @@ way_to k = calls_to k call_tail
 abbrev pub call_code : Homes → ℕ → ℕ → ℕ → Option ℕ → PlainParts
 call_code homes frame mask k result =
     joined (one (straight (mask_handed homes mask)))
-    (joined (one (way_to k)) (one (straight (behind_call homes frame mask result))))
+    (joined (one (way_to k)) (one (straight (after_call homes frame mask result))))
 
 -- ---- sends
 

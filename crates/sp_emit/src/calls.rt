@@ -15,7 +15,7 @@ use crate::places::{
     fetch_word, fetched_at, flag_of, keep_word, mask_test, read_word, set_word, told_at,
 };
 use crate::registers::{
-    FIRST, MASK, MORE, OVERRUN, RESULT, SECOND, SPARE, TEST, behind, pred, reg,
+    FIRST, MASK, MORE, OVERRUN, RESULT, SECOND, SPARE, TEST, pred, reg, register_after,
 };
 use crate::stands::Homes;
 use patmos_instr::{AluFunc, Bundle, CmpFunc, ImmFunc, Mem, PredFunc, StackFunc};
@@ -64,7 +64,7 @@ fn come_back(
     requires mask { mask < 128 }
     requires slot { IfSome slot (λ word. word < 128) }
     ensures { OnOk result (parts_of out.new.items
-        ≡ joined (parts_of out.old.items) (one (straight (specs.behind_call homes frame mask slot)))) }
+        ≡ joined (parts_of out.old.items) (one (straight (specs.after_call homes frame mask slot)))) }
 {
     let back = stack_op(StackFunc::Sens, frame);
     match slot {
@@ -110,9 +110,9 @@ fn send_test(homes: Homes, mask: u32) -> [Bundle; 11]
 {
     let [load, masked] = mask_test(homes, mask);
     let source = reg(FIRST);
-    let target = behind(source);
-    let count = behind(target);
-    let (less, spare) = (behind(count), reg(SPARE));
+    let target = register_after(source);
+    let count = register_after(target);
+    let (less, spare) = (register_after(count), reg(SPARE));
     let (test, second) = (pred(TEST), pred(SECOND));
     [
         load,
@@ -135,8 +135,8 @@ fn send_start(core: u32) -> [Bundle; 4]
     ensures { result ≡ specs.send_start core }
 {
     let source = reg(FIRST);
-    let target = behind(source);
-    let count = behind(target);
+    let target = register_after(source);
+    let count = register_after(target);
     let (spare, test) = (reg(SPARE), pred(TEST));
     [
         set_long(spare, 0x2_0000 + 16 * core),

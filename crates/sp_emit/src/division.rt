@@ -122,9 +122,9 @@ fn digits(alloc: Global) -> Result<Part, OutOfMemory>
 
 // the digits stand between what is before and what is after them
 #[tactic(auto, using(crate::proofs::Pushed::around_pushed))]
-fn around(out: &mut Vec<Part>, before: &[Bundle], behind: &[Bundle]) -> Result<(), OutOfMemory>
+fn around(out: &mut Vec<Part>, before: &[Bundle], after: &[Bundle]) -> Result<(), OutOfMemory>
     ensures { OnOk result (parts_of out.new.items
-        ≡ joined (parts_of out.old.items) (specs.around before.now behind.now)) }
+        ≡ joined (parts_of out.old.items) (specs.around before.now after.now)) }
 {
     let mut first = Vec::new(*out.allocator());
     first.extend_from_slice(before)?;
@@ -132,20 +132,20 @@ fn around(out: &mut Vec<Part>, before: &[Bundle], behind: &[Bundle]) -> Result<(
     push_straight(out, &first)?;
     let digits = digits(*out.allocator())?;
     push(out, digits)?;
-    push_straight(out, behind)
+    push_straight(out, after)
 }
 
 /// A division of unsigned words after the parts, with what makes its answer. It is `Err` where memory runs out.
 pub fn unsigned_division(
     out: &mut Vec<Part>,
-    behind: &[Bundle],
+    after: &[Bundle],
     ra: Reg,
     rb: Reg,
 ) -> Result<(), OutOfMemory>
     ensures { OnOk result (parts_of out.new.items
-        ≡ joined (parts_of out.old.items) (specs.unsigned_division behind.now ra rb)) }
+        ≡ joined (parts_of out.old.items) (specs.unsigned_division after.now ra rb)) }
 {
-    around(out, &operands(ra, rb), behind)
+    around(out, &operands(ra, rb), after)
 }
 
 /// A division of signed words after the parts, with the predicates that say then whether the rest and the quotient are
@@ -154,16 +154,16 @@ pub fn signed_division(
     out: &mut Vec<Part>,
     rest: u32,
     quotient: u32,
-    behind: &[Bundle],
+    after: &[Bundle],
     ra: Reg,
     rb: Reg,
 ) -> Result<(), OutOfMemory>
     requires of_rest { rest < 8 }
     requires of_quotient { quotient < 8 }
     ensures { OnOk result (parts_of out.new.items
-        ≡ joined (parts_of out.old.items) (specs.signed_division rest quotient behind.now ra rb)) }
+        ≡ joined (parts_of out.old.items) (specs.signed_division rest quotient after.now ra rb)) }
 {
-    around(out, &signed_operands(rest, quotient, ra, rb), behind)
+    around(out, &signed_operands(rest, quotient, ra, rb), after)
 }
 
 // whether the divisor is large, and whether it then goes into the dividend

@@ -14,7 +14,7 @@ use crate::instructions::{load_from, set_number, set_short, where_not};
 use crate::operators::{binary, held, is_immediate, truth_of, unary};
 use crate::parts::push_straight;
 use crate::places::{flag_of, is_in_register, read_word};
-use crate::registers::{TEST, behind, pred, reg};
+use crate::registers::{TEST, pred, reg, register_after};
 use crate::stands::Homes;
 use patmos_instr::{Mem, Reg};
 use sp_shape::Part;
@@ -170,7 +170,7 @@ pub fn held_constant(op: SpBinary, b: &SpExpr) -> Option<u32>
 }
 
 // an operator on values that were worked out from a register on
-#[tactic(auto, using(crate::proofs::Needs::few_needs, crate::proofs::Needs::first_fits, crate::proofs::Needs::second_fits, crate::proofs::Needs::one_behind))]
+#[tactic(auto, using(crate::proofs::Needs::few_needs, crate::proofs::Needs::first_fits, crate::proofs::Needs::second_fits, crate::proofs::Needs::one_after))]
 fn applied(
     out: &mut Vec<Part>,
     homes: Homes,
@@ -188,10 +188,16 @@ fn applied(
         return held(out, op, to, value_at(homes, a, rd), n);
     }
     if is_second_first(a, b) {
-        let (first, second) = (value_at(homes, a, behind(rd)), value_at(homes, b, rd));
+        let (first, second) = (
+            value_at(homes, a, register_after(rd)),
+            value_at(homes, b, rd),
+        );
         binary(out, op, to, first, second)
     } else {
-        let (first, second) = (value_at(homes, a, rd), value_at(homes, b, behind(rd)));
+        let (first, second) = (
+            value_at(homes, a, rd),
+            value_at(homes, b, register_after(rd)),
+        );
         binary(out, op, to, first, second)
     }
 }
@@ -257,7 +263,7 @@ fn operand(out: &mut Vec<Part>, homes: Homes, e: &SpExpr, rd: Reg) -> Result<(),
 
 // of two operands the one of the greater need is worked out first
 #[cycle(operands)]
-#[tactic(auto, using(crate::proofs::Needs::few_needs, crate::proofs::Needs::first_fits, crate::proofs::Needs::second_fits, crate::proofs::Needs::first_fits_behind, crate::proofs::Needs::second_fits_behind, crate::proofs::Needs::one_behind))]
+#[tactic(auto, using(crate::proofs::Needs::few_needs, crate::proofs::Needs::first_fits, crate::proofs::Needs::second_fits, crate::proofs::Needs::first_fits_after, crate::proofs::Needs::second_fits_after, crate::proofs::Needs::one_after))]
 fn two_operands(
     out: &mut Vec<Part>,
     homes: Homes,
@@ -299,7 +305,7 @@ fn one_by_one(
         (specs.operand_code homes (plain_sp second.now) (rd + 1)))) }
 {
     operand(out, homes, first, rd)?;
-    operand(out, homes, second, behind(rd))
+    operand(out, homes, second, register_after(rd))
 }
 
 /// An expression is worked out from a register on, and its value goes to another one. It is `Err` where memory runs out.

@@ -9,7 +9,7 @@ ghost use Rattle.sp_tree.specs.Plain.{plain_sp, between_two};
 use crate::expressions::{held_constant, is_second_first, value_at};
 use crate::instructions::{number_op, short_op};
 use crate::places::{flag_of, is_in_register};
-use crate::registers::{behind, reg};
+use crate::registers::{reg, register_after};
 use crate::stands::Homes;
 use patmos_instr::{AluFunc, ImmFunc, Op, Reg};
 use sp_tree::{SpBinary, SpExpr, SpUnary};
@@ -86,7 +86,7 @@ fn held_op(op: SpBinary, to: Reg, ra: Reg, n: u32) -> Option<Op>
 }
 
 // of an operator on two expressions
-#[tactic(auto, using(crate::proofs::Held::short_below, crate::proofs::Needs::few_needs, crate::proofs::Needs::first_fits, crate::proofs::Needs::second_fits, crate::proofs::Needs::one_behind))]
+#[tactic(auto, using(crate::proofs::Held::short_below, crate::proofs::Needs::few_needs, crate::proofs::Needs::first_fits, crate::proofs::Needs::second_fits, crate::proofs::Needs::one_after))]
 fn operator_op(homes: Homes, op: SpBinary, a: &SpExpr, b: &SpExpr, rd: Reg, to: Reg) -> Option<Op>
     requires { ExprFits (between_two op (plain_sp a.now) (plain_sp b.now)) rd }
     ensures { result ≡ specs.last_op homes (between_two op (plain_sp a.now) (plain_sp b.now)) rd to }
@@ -95,10 +95,16 @@ fn operator_op(homes: Homes, op: SpBinary, a: &SpExpr, b: &SpExpr, rd: Reg, to: 
         return held_op(op, to, value_at(homes, a, rd), n);
     }
     if is_second_first(a, b) {
-        let (first, second) = (value_at(homes, a, behind(rd)), value_at(homes, b, rd));
+        let (first, second) = (
+            value_at(homes, a, register_after(rd)),
+            value_at(homes, b, rd),
+        );
         binary_op(op, to, first, second)
     } else {
-        let (first, second) = (value_at(homes, a, rd), value_at(homes, b, behind(rd)));
+        let (first, second) = (
+            value_at(homes, a, rd),
+            value_at(homes, b, register_after(rd)),
+        );
         binary_op(op, to, first, second)
     }
 }

@@ -24,7 +24,7 @@ ghost use Rattle.sp_emit.specs.Counts.{HasCounts};
 ghost use Rattle.sp_emit.specs.Functions.{emitted, codes};
 ghost use Rattle.sp_emit.specs.Flags.{flag_top_of};
 ghost use Rattle.sp_emit.specs.Holding.{so};
-ghost use Rattle.sp_emit.specs.Means.{Follows, KeepsBehind, HasConstants};
+ghost use Rattle.sp_emit.specs.Means.{Follows, KeepsAfter, HasConstants};
 ghost use Rattle.sp_emit.specs.Places.{stack_word, word_of, top_of};
 ghost use Rattle.sp_emit.specs.Serving.{Answers, AreFunctions, AreStatements, CalledWith, ChangeNoMore};
 ghost use Rattle.sp_emit.specs.Statements.{stmts_code};
@@ -64,7 +64,7 @@ pub fn functions_do_what_they_give()
         (run by_words (parts_trail (trails (codes fs) n) (stmts_code homes frame counter ts)) m) }
     ensures frame { (fs : List PlainFunction) (n : ℕ) (homes : Homes) (frame slots counter : ℕ) (ts : PlainStmts) (s : State)
         (m : Run) → AreStatements fs n homes frame slots counter ts s m
-        → KeepsBehind (homes.first + (counter + 1)) (stack_word homes.first (counter + 1)) m (run by_words
+        → KeepsAfter (homes.first + (counter + 1)) (stack_word homes.first (counter + 1)) m (run by_words
         (parts_trail (trails (codes fs) n) (stmts_code homes frame counter ts)) m) }
 {}
 

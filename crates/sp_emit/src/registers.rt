@@ -63,7 +63,7 @@ pub fn pred(number: u32) -> Pred
 }
 
 /// The register after one.
-pub fn behind(rd: Reg) -> Reg
+pub fn register_after(rd: Reg) -> Reg
     requires { rd + 1 < 32 }
     ensures { result ≡ rd + 1 }
 {

@@ -17,7 +17,7 @@ use crate::instructions::{always, under, where_so};
 use crate::last::last_op;
 use crate::parts::push_straight;
 use crate::places::{flag_of, is_in_register, mask_test, set_word, told_at};
-use crate::registers::{FIRST, behind, reg};
+use crate::registers::{FIRST, reg, register_after};
 use crate::stands::Homes;
 use crate::truths::set_flag;
 use crate::writes::{cell_write, element_write, slot_write};
@@ -37,7 +37,7 @@ fn target(out: &mut Vec<Part>, homes: Homes, mask: u32, to: &SpTarget) -> Result
         SpTarget::Frame { slot } => slot_write(out, homes, mask, *slot),
         SpTarget::Scalar { cell } => cell_write(out, homes, mask, *cell),
         SpTarget::Element { array, index } => {
-            expression(out, homes, index, behind(reg(FIRST)))?;
+            expression(out, homes, index, register_after(reg(FIRST)))?;
             element_write(out, homes, mask, *array)
         }
     }
@@ -115,7 +115,7 @@ fn arguments(
     let mut rd = first;
     for e in args {
         expression(out, homes, e, rd)?;
-        rd = behind(rd);
+        rd = register_after(rd);
     }
     Ok(())
 }
@@ -137,10 +137,10 @@ fn send_values(
         (joined (expr_code homes (plain_sp target.now) (FIRST + 1)) (expr_code homes (plain_sp count.now) (FIRST + 2))))) }
 {
     let first = reg(FIRST);
-    let second = behind(first);
+    let second = register_after(first);
     expression(out, homes, source, first)?;
     expression(out, homes, target, second)?;
-    expression(out, homes, count, behind(second))
+    expression(out, homes, count, register_after(second))
 }
 
 // a send with its values

@@ -12,7 +12,7 @@ use crate::expressions::{held_constant, is_second_first, operands, slot_number, 
 use crate::instructions::{combine, compare, compare_short};
 use crate::parts::push_straight;
 use crate::places::{fetch_word, fetched_at, flag_of};
-use crate::registers::{FIRST, SECOND, TEST, behind, pred, reg};
+use crate::registers::{FIRST, SECOND, TEST, pred, reg, register_after};
 use crate::stands::{Flags, Homes};
 use patmos_instr::{Bundle, CmpFunc, Pred, PredFunc, Reg};
 use sp_shape::Part;
@@ -133,7 +133,7 @@ fn by_number(out: &mut Vec<Part>, op: SpBinary, ra: Reg, n: u32) -> Result<(), O
 }
 
 // of an operator on two expressions
-#[tactic(auto, using(crate::proofs::Needs::few_needs, crate::proofs::Needs::first_fits, crate::proofs::Needs::second_fits, crate::proofs::Needs::one_behind))]
+#[tactic(auto, using(crate::proofs::Needs::few_needs, crate::proofs::Needs::first_fits, crate::proofs::Needs::second_fits, crate::proofs::Needs::one_after))]
 fn operator_test(
     out: &mut Vec<Part>,
     homes: Homes,
@@ -150,10 +150,16 @@ fn operator_test(
         return by_number(out, op, value_at(homes, a, first), n);
     }
     if is_second_first(a, b) {
-        let (ra, rb) = (value_at(homes, a, behind(first)), value_at(homes, b, first));
+        let (ra, rb) = (
+            value_at(homes, a, register_after(first)),
+            value_at(homes, b, first),
+        );
         by_two(out, op, ra, rb)
     } else {
-        let (ra, rb) = (value_at(homes, a, first), value_at(homes, b, behind(first)));
+        let (ra, rb) = (
+            value_at(homes, a, first),
+            value_at(homes, b, register_after(first)),
+        );
         by_two(out, op, ra, rb)
     }
 }

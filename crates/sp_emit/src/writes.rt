@@ -13,7 +13,7 @@ use crate::expressions::{address_of, array_space, cell_space};
 use crate::instructions::{always, combine, set_number, store_to, where_so};
 use crate::parts::push_straight;
 use crate::places::{mask_test, set_word, told_at};
-use crate::registers::{FIRST, SECOND, SPARE, TEST, behind, pred, reg};
+use crate::registers::{FIRST, SECOND, SPARE, TEST, pred, reg, register_after};
 use crate::stands::Homes;
 use patmos_instr::{Bundle, Mem, Pred, PredFunc, Reg};
 use sp_shape::Part;
@@ -97,7 +97,7 @@ fn element_bundles(
     requires formed { array_formed array ≡ true }
     ensures { IfOk result (λ bundles. bundles.items ≡ specs.element_write homes mask array) }
 {
-    let index = behind(reg(FIRST));
+    let index = register_after(reg(FIRST));
     let (test, second) = (pred(TEST), pred(SECOND));
     let mut bundles = Vec::new(alloc);
     bundles.extend_from_slice(&mask_test(homes, mask))?;

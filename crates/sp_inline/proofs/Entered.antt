@@ -30,7 +30,8 @@ number_one : (e : PlainSp) → is_one e ≡ true → constant 1 ≡ e
 number_one (constant n) is = ap constant (sym (eqb-true n 1 is))
 number_one e is = grind (arith, is)
 
-tested : (mask : ℕ) (ts : PlainStmts) → tests_mask mask ts ≡ true → stmt (masks mask (call_mask true mask)) (entered true ts) ≡ ts
+tested : (mask : ℕ) (ts : PlainStmts) → tests_mask mask ts ≡ true
+    → stmt (masks mask (call_mask true mask)) (entered true ts) ≡ ts
 tested mask (stmt (masks slot (between_two op a b)) rest) is =
     let p = and_parts (slot == mask) (is_equal op && (is_word mask a && is_one b)) is in
     let q = and_parts (is_equal op) (is_word mask a && is_one b) p.1 in
@@ -41,16 +42,18 @@ tested mask ts is = grind (arith, is)
 
 -- either nothing is left out, or the test before the others is
 pub entered_is : (P : Bool → PlainStmts → Type 0) (mask : ℕ) (ts : PlainStmts) → P false ts
-    → (stmt (masks mask (call_mask true mask)) (entered true ts) ≡ ts → P true (entered true ts)) → P (tests_mask mask ts) (entered (tests_mask mask ts) ts)
+    → (stmt (masks mask (call_mask true mask)) (entered true ts) ≡ ts → P true (entered true ts))
+    → P (tests_mask mask ts) (entered (tests_mask mask ts) ts)
 entered_is P mask ts whole less = by (tests_mask mask ts) refl
   where
     by : (b : Bool) → tests_mask mask ts ≡ b → P b (entered b ts)
     by true is = less (tested mask ts is)
     by false is = whole
 
--- ---- what is so of statements, and of those behind their first, is so of those that are taken in
+-- ---- what is so of statements, and of those after their first, is so of those that are taken in
 
-pub entered_so : (P : PlainStmts → Type 0) → ((t : PlainStmt) (rest : PlainStmts) → P (stmt t rest) → P rest) → (tests : Bool) (ts : PlainStmts) → P ts
+pub entered_so : (P : PlainStmts → Type 0) → ((t : PlainStmt) (rest : PlainStmts) → P (stmt t rest) → P rest)
+    → (tests : Bool) (ts : PlainStmts) → P ts
     → P (entered tests ts)
 entered_so P behind true no_stmt h = h
 entered_so P behind true (stmt t rest) h = behind t rest h
@@ -87,7 +90,8 @@ put_again x y z f = λ i u. by (x == u) (f u) i
 
 -- the test makes of what a function begins with under a mask what it begins with where that was tested before
 pub test_done : (g : Serves) (f : PlainFunction) (mask : ℕ) (args : List ℕ) (w : World)
-    → begun_state f (flag (mask == 1)) args w ≡ stmt_done g (masks f.mask (call_mask true f.mask)) (begun_state f mask args w)
+    → begun_state f (flag (mask == 1)) args w ≡ stmt_done g (masks f.mask (call_mask true f.mask))
+    (begun_state f mask args w)
 test_done g f mask args w =
     let all = slice_index args in
     ap (λ frame. let s : State = record { frame = frame; world = w } in s)
@@ -97,8 +101,11 @@ test_done g f mask args w =
 -- so they do under what they are handed what all do under the mask
 pub entered_done : (g : Serves) (f : PlainFunction) (mask : ℕ) (t : State) (args : List ℕ) (w : World)
     → let tests = tests_mask f.mask f.body in
-    stmts_done g (entered tests f.body) (begun_state f (worth (call_mask tests mask) t) args w) ≡ stmts_done g f.body (begun_state f (t.frame mask) args w)
+    stmts_done g (entered tests f.body) (begun_state f (worth (call_mask tests mask) t) args w)
+    ≡ stmts_done g f.body (begun_state f (t.frame mask) args w)
 entered_done g f mask t args w =
-    entered_is (λ tests xs. stmts_done g xs (begun_state f (worth (call_mask tests mask) t) args w) ≡ stmts_done g f.body (begun_state f (t.frame mask) args w))
+    entered_is (λ tests xs. stmts_done g xs (begun_state f (worth (call_mask tests mask) t) args w)
+    ≡ stmts_done g f.body (begun_state f (t.frame mask) args w))
     f.mask f.body refl
-    (λ is. ap (stmts_done g (entered true f.body)) (test_done g f (t.frame mask) args w) ∙ ap (λ xs. stmts_done g xs (begun_state f (t.frame mask) args w)) is)
+    (λ is. ap (stmts_done g (entered true f.body)) (test_done g f (t.frame mask) args w)
+    ∙ ap (λ xs. stmts_done g xs (begun_state f (t.frame mask) args w)) is)

@@ -61,7 +61,8 @@ mutual
 
 -- ---- what a call costs that is taken in
 
-begun_cost : (at n : ℕ) (args : List PlainSp) → length args ≤ n → stmts_cost (begun_words at n args) + length args ≡ args_cost args + 2 * n
+begun_cost : (at n : ℕ) (args : List PlainSp) → length args ≤ n → stmts_cost (begun_words at n args) + length args
+    ≡ args_cost args + 2 * n
 begun_cost at zero [] few = refl
 begun_cost at zero (e ∷ args) few = absurd (omega (arith, few))
 begun_cost at (suc n) [] few = let rest = begun_cost (at + 1) n [] (omega arith) in omega (arith, rest)
@@ -79,10 +80,12 @@ handed_cost zero mask (e ∷ args) few = absurd (omega (arith, few))
 handed_cost (suc n) mask [] few = let rest = handed_cost n mask [] (omega arith) in omega (arith, rest)
 handed_cost (suc n) mask (e ∷ args) few = let rest = handed_cost n mask args (omega (arith, few)) in omega (arith, rest)
 
-call_cost : (o mask : ℕ) (f : PlainFunction) (args : List PlainSp) (result : Option ℕ) → length args ≤ f.mask → f.mask < slots_of f
+call_cost : (o mask : ℕ) (f : PlainFunction) (args : List PlainSp) (result : Option ℕ) → length args ≤ f.mask
+    → f.mask < slots_of f
     → let tests = tests_mask f.mask f.body in
     stmts_cost (call_statements o f mask args result) + length args + 1
-    ≡ args_cost args + (2 * slots_of f + (expr_cost (call_mask tests mask) + (stmts_cost (entered tests f.body) + stmts_cost (given_set mask result (o + f.result)))))
+    ≡ args_cost args + (2 * slots_of f + (expr_cost (call_mask tests mask) + (stmts_cost (entered tests f.body)
+    + stmts_cost (given_set mask result (o + f.result)))))
 call_cost o mask f args result few below =
     let tests = tests_mask f.mask f.body in
     let own = entered tests f.body in
@@ -96,38 +99,50 @@ call_cost o mask f args result few below =
     let behind = joined_cost (stmts_moved o own) last in
     let first = begun_cost o (slots_of f) all (omega (arith, count, below)) in
     let same = moved_stmts_cost o own in
-    numbers (stmts_cost (call_statements o f mask args result)) (stmts_cost begin) (stmts_cost body) (stmts_cost (stmts_moved o own)) (stmts_cost own)
-    (stmts_cost last) (length args) (args_cost args) (length all) (args_cost all) (expr_cost (call_mask tests mask)) f.mask (slots_of f) whole behind first same count paid
+    numbers (stmts_cost (call_statements o f mask args result)) (stmts_cost begin) (stmts_cost body)
+    (stmts_cost (stmts_moved o own)) (stmts_cost own)
+    (stmts_cost last) (length args) (args_cost args) (length all) (args_cost all) (expr_cost (call_mask tests mask))
+    f.mask (slots_of f) whole behind first same count paid
   where
-    numbers : (all begin body moved own last n args m handed given at words : ℕ) → all ≡ begin + body → body ≡ moved + last → begin + m ≡ handed + 2 * words → moved ≡ own
+    numbers : (all begin body moved own last n args m handed given at words : ℕ) → all ≡ begin + body → body
+        ≡ moved + last → begin + m ≡ handed + 2 * words → moved ≡ own
         → m ≡ at + 1 → handed + n ≡ args + at + given → all + n + 1 ≡ args + (2 * words + (given + (own + last)))
     numbers all begin body moved own last n args m handed given at words a b c d e h = omega (arith, a, b, c, d, e, h)
 
-pub grown : (o mask : ℕ) (f : PlainFunction) (args : List SpExpr) (result : Option ℕ) (words cost own given : ℕ) → words ≡ slots_of f
+pub grown : (o mask : ℕ) (f : PlainFunction) (args : List SpExpr) (result : Option ℕ) (words cost own given : ℕ)
+    → words ≡ slots_of f
     → let tests = tests_mask f.mask f.body in
-    cost ≡ capped (stmts_cost (entered tests f.body)) → own ≡ expr_cost (call_mask tests mask) → given ≡ stmts_cost (given_set mask result (o + f.result))
+    cost ≡ capped (stmts_cost (entered tests f.body)) → own ≡ expr_cost (call_mask tests mask) → given
+    ≡ stmts_cost (given_set mask result (o + f.result))
     → length args ≤ f.mask → f.mask < words
     → min (min (cost + (2 * words + own - 1 - length args + given)) (2 ^ 64 - 1) - 16) (2 ^ 32)
     ≡ min (growth (call_statements o f mask (map plain_sp args) result) (map plain_sp args)) (2 ^ 32)
 grown o mask f args result words cost own given same_words same_cost same_own same_given few below =
     let tests = tests_mask f.mask f.body in
     let count = length-map args plain_sp in
-    let whole = call_cost o mask f (map plain_sp args) result (omega (arith, few, count)) (omega (arith, below, same_words)) in
-    numbers (stmts_cost (call_statements o f mask (map plain_sp args) result)) (args_cost (map plain_sp args)) (stmts_cost (entered tests f.body))
-    (expr_cost (call_mask tests mask)) (stmts_cost (given_set mask result (o + f.result))) (length args) (length (map plain_sp args)) f.mask words (slots_of f) cost own given
+    let whole = call_cost o mask f (map plain_sp args) result (omega (arith, few, count))
+    (omega (arith, below, same_words)) in
+    numbers (stmts_cost (call_statements o f mask (map plain_sp args) result)) (args_cost (map plain_sp args))
+    (stmts_cost (entered tests f.body))
+    (expr_cost (call_mask tests mask)) (stmts_cost (given_set mask result (o + f.result))) (length args)
+    (length (map plain_sp args)) f.mask words (slots_of f) cost own given
     same_words same_cost same_own same_given few below count whole
   where
-    numbers : (all paid body start last n m at words slots cost own given : ℕ) → words ≡ slots → cost ≡ min body (2 ^ 64 - 1) → own ≡ start → given ≡ last → n ≤ at → at < words → m ≡ n
+    numbers : (all paid body start last n m at words slots cost own given : ℕ) → words ≡ slots → cost
+        ≡ min body (2 ^ 64 - 1) → own ≡ start → given ≡ last → n ≤ at → at < words → m ≡ n
         → all + m + 1 ≡ paid + (2 * slots + (start + (body + last)))
-        → min (min (cost + (2 * words + own - 1 - n + given)) (2 ^ 64 - 1) - 16) (2 ^ 32) ≡ min (all - (16 + paid)) (2 ^ 32)
-    numbers all paid body start last n m at words slots cost own given a b c d p e q h = omega (arith, a, b, c, d, p, e, q, h)
+        → min (min (cost + (2 * words + own - 1 - n + given)) (2 ^ 64 - 1) - 16) (2 ^ 32)
+        ≡ min (all - (16 + paid)) (2 ^ 32)
+    numbers all paid body start last n m at words slots cost own given a b c d p e q h =
+        omega (arith, a, b, c, d, p, e, q, h)
 
 -- ---- functions that are called
 
 pub measured_length : (ms : List Measured) → length (measured_functions ms) ≡ length ms
 measured_length ms = length-map ms (λ m. plain_function m.function)
 
-pub callee_is : (ms : List Measured) (k : ℕ) (m : Measured) → k < length ms → plain_function (get_or ms k m).function ≡ slice_index_or (measured_functions ms) k no_function
+pub callee_is : (ms : List Measured) (k : ℕ) (m : Measured) → k < length ms → plain_function (get_or ms k m).function
+    ≡ slice_index_or (measured_functions ms) k no_function
 callee_is [] k m within = absurd (omega (arith, within))
 callee_is (x ∷ ms) zero m within = refl
 callee_is (x ∷ ms) (suc k) m within = callee_is ms k m (omega (arith, within))
@@ -137,16 +152,19 @@ all_of false b c k n below = refl
 all_of true b c k n below = sym (ap (λ (d : Bool). d && (b && c)) (lt-ltb k n below))
 
 pub may_found : (c : Caller) (depth k : ℕ) (args : List SpExpr) (m : Measured) (b : Bool) → k < length c.functions.now
-    → (nat_lt 0 depth && (is_whole k (plain_function (get_or c.functions.now k m).function) && nat_le (length args) (get_or c.functions.now k m).function.mask)) ≡ b
+    → (nat_lt 0 depth && (is_whole k (plain_function (get_or c.functions.now k m).function)
+    && nat_le (length args) (get_or c.functions.now k m).function.mask)) ≡ b
     → may_take (plain_caller c) depth k (map plain_sp args) ≡ b
 may_found c depth k args m b below h =
     let ms = c.functions.now in
     let x = get_or ms k m in
     let g = callee (plain_caller c) k in
     let n = length (map plain_sp args) in
-    sym (all_of (nat_lt 0 depth) (is_whole k g) (nat_le n g.mask) k (length (measured_functions ms)) (omega (arith, below, measured_length ms)))
+    sym (all_of (nat_lt 0 depth) (is_whole k g) (nat_le n g.mask) k (length (measured_functions ms))
+    (omega (arith, below, measured_length ms)))
     ∙ sym (ap (λ (f : PlainFunction). nat_lt 0 depth && (is_whole k f && nat_le n f.mask)) (callee_is ms k m below))
-    ∙ ap (λ a. nat_lt 0 depth && (is_whole k (plain_function x.function) && nat_le a x.function.mask)) (length-map args plain_sp) ∙ h
+    ∙ ap (λ a. nat_lt 0 depth && (is_whole k (plain_function x.function) && nat_le a x.function.mask))
+    (length-map args plain_sp) ∙ h
 
 not_true : (b : Bool) → (b ≡ true → ⊥) → b ≡ false
 not_true true is_not = absurd (is_not refl)
@@ -159,12 +177,15 @@ no_and : (a b : Bool) → (a && (false && b)) ≡ false
 no_and true b = refl
 no_and false b = refl
 
-pub may_past : (c : Caller) (depth k : ℕ) (args : List PlainSp) → length c.functions.now ≤ k → may_take (plain_caller c) depth k args ≡ false
+pub may_past : (c : Caller) (depth k : ℕ) (args : List PlainSp) → length c.functions.now ≤ k
+    → may_take (plain_caller c) depth k args ≡ false
 may_past c depth k args past =
     let ms = c.functions.now in
-    ap (λ (b : Bool). nat_lt 0 depth && (b && (is_whole k (callee (plain_caller c) k) && nat_le (length args) (callee (plain_caller c) k).mask)))
+    ap (λ (b : Bool). nat_lt 0 depth
+    && (b && (is_whole k (callee (plain_caller c) k) && nat_le (length args) (callee (plain_caller c) k).mask)))
     (not_below k (length (measured_functions ms)) (omega (arith, past, measured_length ms)))
-    ∙ no_and (nat_lt 0 depth) (is_whole k (callee (plain_caller c) k) && nat_le (length args) (callee (plain_caller c) k).mask)
+    ∙ no_and (nat_lt 0 depth) (is_whole k (callee (plain_caller c) k) && nat_le (length args) (callee
+    (plain_caller c) k).mask)
 
 -- what is known of one that may be taken in
 pub record Fitting (f : PlainFunction) (count : ℕ) : Type 0 where
@@ -173,7 +194,8 @@ pub record Fitting (f : PlainFunction) (count : ℕ) : Type 0 where
   pub result : f.result < slots_of f
   pub few : count ≤ f.mask
 
-pub fitting : (c : PlainCaller) (depth k : ℕ) (args : List PlainSp) → may_take c depth k args ≡ true → Fitting (callee c k) (length args)
+pub fitting : (c : PlainCaller) (depth k : ℕ) (args : List PlainSp) → may_take c depth k args ≡ true
+    → Fitting (callee c k) (length args)
 fitting c depth k args is =
     let f = callee c k in
     let a = and_parts (nat_lt 0 depth) _ is in
@@ -206,11 +228,15 @@ same_test a b c d there back = by (cases_lt b a)
         past (inr h) = let k = back h in absurd (omega (arith, k, large))
 
 -- the room that is left, by numbers that are told as far as words tell them
-pub room_same : (c : PlainCaller) (depth : ℕ) (r : Room) (f : PlainFunction) (more : PlainStmts) (args : List PlainSp) (grown words levels : ℕ)
+pub room_same : (c : PlainCaller) (depth : ℕ) (r : Room) (f : PlainFunction) (more : PlainStmts) (args : List PlainSp)
+    (grown words levels : ℕ)
     → grown ≡ min (growth more args) (2 ^ 32) → words ≡ max r.words (c.words + slots_of f)
-    → levels ≡ max r.levels (min (capped (stmts_levels f.body) + depth) (2 ^ 64 - 1)) → r.left < 2 ^ 32 → c.frame < 2 ^ 32
-    → (if nat_le grown r.left && nat_le (words + (levels + 2)) c.frame then Some (room_of (r.left - grown) words levels) else None)
-    ≡ (if has_room c r (growth more args) (room_after c depth r f more args) then Some (room_after c depth r f more args) else None)
+    → levels ≡ max r.levels (min (capped (stmts_levels f.body) + depth) (2 ^ 64 - 1)) → r.left < 2 ^ 32
+    → c.frame < 2 ^ 32
+    → (if nat_le grown r.left && nat_le (words + (levels + 2)) c.frame then Some (room_of (r.left - grown) words
+    levels) else None)
+    ≡ (if has_room c r (growth more args) (room_after c depth r f more args) then Some
+    (room_after c depth r f more args) else None)
 room_same c depth r f more args grown words levels is_grown is_words is_levels small narrow =
     ap₂ (λ (a b : Bool). if a && b then Some (room_of (r.left - grown) words levels) else None) first second
     ∙ by (nat_le (growth more args) r.left) (nat_le (after.words + (after.levels + 2)) c.frame) refl refl
@@ -219,14 +245,16 @@ room_same c depth r f more args grown words levels is_grown is_words is_levels s
     after = room_after c depth r f more args
 
     first : nat_le grown r.left ≡ nat_le (growth more args) r.left
-    first = same_test grown r.left (growth more args) r.left (λ h. omega (arith, h, is_grown, small)) (λ h. omega (arith, h, is_grown, small))
+    first = same_test grown r.left (growth more args) r.left (λ h. omega (arith, h, is_grown, small))
+        (λ h. omega (arith, h, is_grown, small))
 
     second : nat_le (words + (levels + 2)) c.frame ≡ nat_le (after.words + (after.levels + 2)) c.frame
     second = same_test (words + (levels + 2)) c.frame (after.words + (after.levels + 2)) c.frame
         (λ h. omega (arith, h, is_words, is_levels, narrow)) (λ h. omega (arith, h, is_words, is_levels, narrow))
 
     by : (a b : Bool) → nat_le (growth more args) r.left ≡ a → nat_le (after.words + (after.levels + 2)) c.frame ≡ b
-        → (if a && b then Some (room_of (r.left - grown) words levels) else None) ≡ (if a && b then Some after else None)
+        → (if a && b then Some (room_of (r.left - grown) words levels) else None)
+        ≡ (if a && b then Some after else None)
     by false b fits room = refl
     by true false fits room = refl
     by true true fits room =
@@ -236,21 +264,26 @@ room_same c depth r f more args grown words levels is_grown is_words is_levels s
         let b : levels ≡ after.levels = omega (arith, is_levels, low, narrow) in
         λ i. Some (room_of (a i) (is_words i) (b i))
 
-pub taken_both : (c : PlainCaller) (depth : ℕ) (r : Room) (k : ℕ) (more : PlainStmts) (args : List PlainSp) (b : Bool) → may_take c depth k args ≡ true
-    → has_room c r (growth more args) (room_after c depth r (callee c k) more args) ≡ b → is_taken c depth r k more args ≡ b
+pub taken_both : (c : PlainCaller) (depth : ℕ) (r : Room) (k : ℕ) (more : PlainStmts) (args : List PlainSp) (b : Bool)
+    → may_take c depth k args ≡ true
+    → has_room c r (growth more args) (room_after c depth r (callee c k) more args) ≡ b → is_taken c depth r k more args
+    ≡ b
 taken_both c depth r k more args b may room =
     ap (λ (a : Bool). a && has_room c r (growth more args) (room_after c depth r (callee c k) more args)) may ∙ room
 
-pub may_not : (c : PlainCaller) (depth : ℕ) (r : Room) (k : ℕ) (more : PlainStmts) (args : List PlainSp) → may_take c depth k args ≡ false
+pub may_not : (c : PlainCaller) (depth : ℕ) (r : Room) (k : ℕ) (more : PlainStmts) (args : List PlainSp)
+    → may_take c depth k args ≡ false
     → is_taken c depth r k more args ≡ false
-may_not c depth r k more args is = ap (λ (a : Bool). a && has_room c r (growth more args) (room_after c depth r (callee c k) more args)) is
+may_not c depth r k more args is =
+    ap (λ (a : Bool). a && has_room c r (growth more args) (room_after c depth r (callee c k) more args)) is
 
 abbrev or_given : Room → Option Room → Room
 or_given given None = given
 or_given given (Some other) = other
 
 -- what is found says whether there is room
-some_room : (b : Bool) (given after : Room) → Some given ≡ (if b then Some after else None) → (b ≡ true) × (given ≡ after)
+some_room : (b : Bool) (given after : Room) → Some given ≡ (if b then Some after else None) → (b ≡ true)
+    × (given ≡ after)
 some_room true given after is = (refl, ap (λ o. or_given given o) is)
 some_room false given after is = absurd (true≢false (ap is_some is))
 
@@ -258,37 +291,47 @@ no_room : (b : Bool) (after : Room) → None ≡ (if b then Some after else None
 no_room true after is = absurd (true≢false (sym (ap is_some is)))
 no_room false after is = refl
 
-pub taken_found : (c : PlainCaller) (depth : ℕ) (r : Room) (k : ℕ) (call : Call) (g : PlainFunction) (given : Room) → may_take c depth k (args_of call) ≡ true → g ≡ callee c k
-    → Some given ≡ (if has_room c r (growth (statements_for c.words g call) (args_of call)) (room_after c depth r g (statements_for c.words g call) (args_of call))
+pub taken_found : (c : PlainCaller) (depth : ℕ) (r : Room) (k : ℕ) (call : Call) (g : PlainFunction) (given : Room)
+    → may_take c depth k (args_of call) ≡ true → g ≡ callee c k
+    → Some given ≡ (if has_room c r (growth (statements_for c.words g call) (args_of call))
+    (room_after c depth r g (statements_for c.words g call) (args_of call))
     then Some (room_after c depth r g (statements_for c.words g call) (args_of call)) else None)
     → (is_taken c depth r k (statements_for c.words (callee c k) call) (args_of call) ≡ true)
-    × ((g ≡ callee c k) × (given ≡ room_after c depth r (callee c k) (statements_for c.words (callee c k) call) (args_of call)))
+    × ((g ≡ callee c k) × (given ≡ room_after c depth r (callee c k) (statements_for c.words (callee c k) call)
+    (args_of call)))
 taken_found c depth r k call g given may same found =
     let more = statements_for c.words (callee c k) call in
-    let here = subst (λ h. Some given ≡ (if has_room c r (growth (statements_for c.words h call) (args_of call)) (room_after c depth r h (statements_for c.words h call) (args_of call))
+    let here = subst (λ h. Some given ≡ (if has_room c r (growth (statements_for c.words h call) (args_of call))
+    (room_after c depth r h (statements_for c.words h call) (args_of call))
     then Some (room_after c depth r h (statements_for c.words h call) (args_of call)) else None)) same found in
-    let both = some_room (has_room c r (growth more (args_of call)) (room_after c depth r (callee c k) more (args_of call))) given _ here in
+    let both = some_room (has_room c r (growth more (args_of call)) (room_after c depth r (callee c k) more
+    (args_of call))) given _ here in
     (taken_both c depth r k more (args_of call) true may both.0, (same, both.1))
 
-pub taken_not : (c : PlainCaller) (depth : ℕ) (r : Room) (k : ℕ) (call : Call) (g : PlainFunction) → may_take c depth k (args_of call) ≡ true → g ≡ callee c k
-    → None ≡ (if has_room c r (growth (statements_for c.words g call) (args_of call)) (room_after c depth r g (statements_for c.words g call) (args_of call))
+pub taken_not : (c : PlainCaller) (depth : ℕ) (r : Room) (k : ℕ) (call : Call) (g : PlainFunction)
+    → may_take c depth k (args_of call) ≡ true → g ≡ callee c k
+    → None ≡ (if has_room c r (growth (statements_for c.words g call) (args_of call))
+    (room_after c depth r g (statements_for c.words g call) (args_of call))
     then Some (room_after c depth r g (statements_for c.words g call) (args_of call)) else None)
     → is_taken c depth r k (statements_for c.words (callee c k) call) (args_of call) ≡ false
 taken_not c depth r k call g may same found =
     let more = statements_for c.words (callee c k) call in
-    let here = subst (λ h. None ≡ (if has_room c r (growth (statements_for c.words h call) (args_of call)) (room_after c depth r h (statements_for c.words h call) (args_of call))
+    let here = subst (λ h. None ≡ (if has_room c r (growth (statements_for c.words h call) (args_of call))
+    (room_after c depth r h (statements_for c.words h call) (args_of call))
     then Some (room_after c depth r h (statements_for c.words h call) (args_of call)) else None)) same found in
     taken_both c depth r k more (args_of call) false may
     (no_room (has_room c r (growth more (args_of call)) (room_after c depth r (callee c k) more (args_of call))) _ here)
 
-pub few_args : (c : PlainCaller) (depth k : ℕ) (args : List SpExpr) (m : Measured) → may_take c depth k (map plain_sp args) ≡ true
+pub few_args : (c : PlainCaller) (depth k : ℕ) (args : List SpExpr) (m : Measured)
+    → may_take c depth k (map plain_sp args) ≡ true
     → plain_function m.function ≡ callee c k → length args ≤ m.function.mask
 few_args c depth k args m may same =
     let fits = (fitting c depth k (map plain_sp args) may).few in
     let mask = ap (λ (f : PlainFunction). f.mask) same in
     omega (arith, fits, mask, length-map args plain_sp)
 
-pub mask_there : (c : PlainCaller) (depth k : ℕ) (args : List SpExpr) (m : Measured) → may_take c depth k (map plain_sp args) ≡ true
+pub mask_there : (c : PlainCaller) (depth k : ℕ) (args : List SpExpr) (m : Measured)
+    → may_take c depth k (map plain_sp args) ≡ true
     → plain_function m.function ≡ callee c k → m.function.mask < m.words
 mask_there c depth k args m may same =
     let there = (fitting c depth k (map plain_sp args) may).mask in

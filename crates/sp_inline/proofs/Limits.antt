@@ -57,7 +57,8 @@ pub record Within (c : PlainCaller) (depth : ℕ) (r : Room) (before : ℕ) (t :
   pub inside : depth + stmts_levels t.body ≤ t.room.levels
   pub frame : t.room.words + (t.room.levels + 2) ≤ max (r.words + (r.levels + 2)) c.frame
 
-kept_within : (c : PlainCaller) (depth : ℕ) (r : Room) (t : PlainStmt) → stmt_levels t ≡ 0 → depth ≤ r.levels → Within c depth r (stmt_cost t) (kept r t)
+kept_within : (c : PlainCaller) (depth : ℕ) (r : Room) (t : PlainStmt) → stmt_levels t ≡ 0 → depth ≤ r.levels
+    → Within c depth r (stmt_cost t) (kept r t)
 kept_within c depth r t flat above = record {
   cost = omega arith;
   words = omega arith;
@@ -66,7 +67,8 @@ kept_within c depth r t flat above = record {
   frame = omega arith;
 }
 
-call_within : (c : PlainCaller) (depth : ℕ) (r : Room) (mask k : ℕ) (args : List PlainSp) (result : Option ℕ) → depth ≤ r.levels
+call_within : (c : PlainCaller) (depth : ℕ) (r : Room) (mask k : ℕ) (args : List PlainSp) (result : Option ℕ)
+    → depth ≤ r.levels
     → Within c depth r (16 + args_cost args) (call_taken c depth r mask k args result)
 call_within c depth r mask k args result above = by (is_taken c depth r k more args) refl
   where
@@ -78,7 +80,8 @@ call_within c depth r mask k args result above = by (is_taken c depth r k more a
 
     by : (b : Bool) → is_taken c depth r k more args ≡ b
         → Within c depth r (16 + args_cost args)
-        (if b then (let t : Taken = record { body = more; room = room_after c depth r f more args } in t) else kept r (calls mask k args result))
+        (if b then (let t : Taken = record { body = more; room = room_after c depth r f more args } in t) else kept r
+        (calls mask k args result))
     by true is =
         let after = room_after c depth r f more args in
         let o = and_parts (may_take c depth k args) _ is in
@@ -97,8 +100,10 @@ call_within c depth r mask k args result above = by (is_taken c depth r k more a
     by false is = kept_within c depth r (calls mask k args result) refl above
 
 mutual
-  pub stmt_within : (c : PlainCaller) (depth : ℕ) (r : Room) (t : PlainStmt) → depth + stmt_levels t ≤ r.levels → Within c depth r (stmt_cost t) (stmt_taken c depth r t)
-  stmt_within c depth r (calls mask k args result) above = call_within c depth r mask k args result (omega (arith, above))
+  pub stmt_within : (c : PlainCaller) (depth : ℕ) (r : Room) (t : PlainStmt) → depth + stmt_levels t ≤ r.levels
+      → Within c depth r (stmt_cost t) (stmt_taken c depth r t)
+  stmt_within c depth r (calls mask k args result) above =
+      call_within c depth r mask k args result (omega (arith, above))
   stmt_within c depth r (transfers mask core source target count) above =
       kept_within c depth r (transfers mask core source target count) refl (omega (arith, above))
   stmt_within c depth r (iterations count body) above =
@@ -112,8 +117,10 @@ mutual
       }
   stmt_within c depth r other above = kept_within c depth r other refl (omega (arith, above))
 
-  pub stmts_within : (c : PlainCaller) (depth : ℕ) (r : Room) (ts : PlainStmts) → depth + stmts_levels ts ≤ r.levels → Within c depth r (stmts_cost ts) (stmts_taken c depth r ts)
-  stmts_within c depth r no_stmt above = record { cost = omega arith; words = omega arith; levels = omega arith; inside = above; frame = omega arith }
+  pub stmts_within : (c : PlainCaller) (depth : ℕ) (r : Room) (ts : PlainStmts) → depth + stmts_levels ts ≤ r.levels
+      → Within c depth r (stmts_cost ts) (stmts_taken c depth r ts)
+  stmts_within c depth r no_stmt above =
+      record { cost = omega arith; words = omega arith; levels = omega arith; inside = above; frame = omega arith }
   stmts_within c depth r (stmt t rest) above =
       let h = stmt_within c depth r t (omega (arith, above)) in
       let first = stmt_taken c depth r t in

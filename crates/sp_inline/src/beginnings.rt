@@ -1,4 +1,4 @@
-//! The statements of a function behind the test of its mask.
+//! The statements of a function after the test of its mask.
 ghost use Rattle.std.specs.Prelude.{◌≡◌};
 ghost use Rattle.sp_tree.specs.Shown.{stmts_of};
 ghost use Rattle.sp_inline.specs.Taken as specs;

@@ -18,6 +18,8 @@ pub joined-nothing : (xs : PlainParts) → joined xs no_part ≡ xs
 joined-nothing no_part = refl
 joined-nothing (part p xs) = ap (part p) (joined-nothing xs)
 
-pub trail_joined : (f : ℕ → List Step) (xs ys : PlainParts) → parts_trail f (joined xs ys) ≡ parts_trail f xs ++ parts_trail f ys
+pub trail_joined : (f : ℕ → List Step) (xs ys : PlainParts) → parts_trail f (joined xs ys) ≡ parts_trail f xs
+    ++ parts_trail f ys
 trail_joined f no_part ys = refl
-trail_joined f (part p xs) ys = ap (λ l. part_trail f p ++ l) (trail_joined f xs ys) ∙ sym (append_assoc (part_trail f p) (parts_trail f xs) (parts_trail f ys))
+trail_joined f (part p xs) ys = ap (λ l. part_trail f p ++ l) (trail_joined f xs ys)
+    ∙ sym (append_assoc (part_trail f p) (parts_trail f xs) (parts_trail f ys))

@@ -9,11 +9,13 @@ use Rattle.sp_shape.specs.Trail.{does, all_done}
 use Rattle.sp_shape.specs.Words.{bundles_room}
 
 -- what holds of all bundles of both
-pub all_append : (holds : Slots → Bool) (xs ys : List Slots) → list_all holds xs ≡ true → list_all holds ys ≡ true → list_all holds (xs ++ ys) ≡ true
+pub all_append : (holds : Slots → Bool) (xs ys : List Slots) → list_all holds xs ≡ true → list_all holds ys ≡ true
+    → list_all holds (xs ++ ys) ≡ true
 all_append holds xs ys x y = list_all-append holds xs ys ∙ and_from (list_all holds xs) (list_all holds ys) x y
 
 -- what follows from it, bundle by bundle
-pub all_weaker : (p q : Slots → Bool) → ((b : Slots) → p b ≡ true → q b ≡ true) → (bs : List Slots) → list_all p bs ≡ true → list_all q bs ≡ true
+pub all_weaker : (p q : Slots → Bool) → ((b : Slots) → p b ≡ true → q b ≡ true) → (bs : List Slots) → list_all p bs
+    ≡ true → list_all q bs ≡ true
 all_weaker p q so [] x = refl
 all_weaker p q so (b ∷ bs) x =
     let parts = and_parts (p b) (list_all p bs) x in

@@ -13,7 +13,8 @@ unfolding plain_part plain_row hidden-the_row-Part-0 hidden
 row_parts [] = refl
 row_parts (p ∷ body) = ap (part (plain_part p)) (row_parts body)
 
-pub plain_repeat : (count : ℕ) (body : List Part) (tail : List Slots) → plain_part (Repeat count body tail) ≡ repeats count (parts_of body) tail
+pub plain_repeat : (count : ℕ) (body : List Part) (tail : List Slots) → plain_part (Repeat count body tail)
+    ≡ repeats count (parts_of body) tail
 unfolding plain_part
 plain_repeat count body tail = ap (λ b. repeats count b tail) (row_parts body)
 
@@ -23,7 +24,8 @@ pub straight_said : (p : Part) (bs : List Slots) → p ≡ Straight bs → plain
 unfolding plain_part
 straight_said p bs is = ap plain_part is
 
-pub repeat_said : (p : Part) (count : ℕ) (body : List Part) (tail : List Slots) → p ≡ Repeat count body tail → plain_part p ≡ repeats count (parts_of body) tail
+pub repeat_said : (p : Part) (count : ℕ) (body : List Part) (tail : List Slots) → p ≡ Repeat count body tail
+    → plain_part p ≡ repeats count (parts_of body) tail
 repeat_said p count body tail is = ap plain_part is ∙ plain_repeat count body tail
 
 pub call_said : (p : Part) (k : ℕ) (tail : List Slots) → p ≡ CallTo k tail → plain_part p ≡ calls_to k tail

@@ -23,7 +23,8 @@ use Rattle.sp_shape.specs.Trail.{Step, does, begins}
 abbrev pub with_pending : Registers → Pending → Registers
 with_pending regs p = record regs { pending = p }
 
-pub writes_fit : (ws : List Write) (p : Pending) (regs : Registers) → FitsRegisters regs → FitsRegisters (with_pending (after_writes ws regs) p)
+pub writes_fit : (ws : List Write) (p : Pending) (regs : Registers) → FitsRegisters regs
+    → FitsRegisters (with_pending (after_writes ws regs) p)
 writes_fit ws p regs fits = record {
   count = length-renewed_from 0 (register_after ws) regs.general ∙ fits.count;
   pred_count = length-renewed_from 0 (pred_after ws) regs.preds ∙ fits.pred_count;
@@ -33,7 +34,8 @@ writes_fit ws p regs fits = record {
 
 -- ---- what a bundle asks for changes no register but a load's
 
-pub stored_regs : (space : Mem) (width : StoreWidth) (address value : ℕ) (m : Run) → (stored space width address value m).regs ≡ m.regs
+pub stored_regs : (space : Mem) (width : StoreWidth) (address value : ℕ) (m : Run)
+    → (stored space width address value m).regs ≡ m.regs
 stored_regs mem.S width address value m = refl
 stored_regs _ width address value m = refl
 
@@ -44,8 +46,10 @@ stacked_regs Sfree count m = refl
 
 effected_fits : (from : Sources) (e : Effect) (m : Run) → FitsRegisters m.regs → FitsRegisters (effected from e m).regs
 effected_fits from effect.Nothing m fits = fits
-effected_fits from (effect.Load space width rd address) m fits = record { count = fits.count; pred_count = fits.pred_count; zero = fits.zero; always = fits.always }
-effected_fits from (effect.Store space width address value) m fits = subst FitsRegisters (sym (stored_regs space width address value m)) fits
+effected_fits from (effect.Load space width rd address) m fits =
+    record { count = fits.count; pred_count = fits.pred_count; zero = fits.zero; always = fits.always }
+effected_fits from (effect.Store space width address value) m fits =
+    subst FitsRegisters (sym (stored_regs space width address value m)) fits
 effected_fits from (effect.StackOp func count) m fits = subst FitsRegisters (sym (stacked_regs func count m)) fits
 effected_fits from (effect.Flow flow) m fits = fits
 
@@ -56,16 +60,25 @@ abbrev pub behind : Slots → Run → Run
 behind b m = record m { regs = after_bundle m.st m.ss b m.regs }
 
 pub late_fits : (from : Sources) (b : Slots) (m : Run) → FitsRegisters m.regs → FitsRegisters (late from b m).regs
-late_fits from b m fits = effected_fits from (effect_of b m.regs) (behind b m) (writes_fit (all_writes m.st m.ss b m.regs) (slot_begun m.regs b.first) m.regs fits)
+late_fits from b m fits = effected_fits from (effect_of b m.regs) (behind b m)
+    (writes_fit (all_writes m.st m.ss b m.regs) (slot_begun m.regs b.first) m.regs fits)
 
 pub once_whole : (from : Sources) (b : Slots) (m : Run) → IsWhole m → IsWhole (once from b m)
 once_whole from b m whole =
     let regs = (late from b m).regs in
-    record { fits = writes_fit (came regs.pending ∷ []) pending.Nothing regs (late_fits from b m whole.fits); pending = refl }
+    record {
+      fits = writes_fit (came regs.pending ∷ []) pending.Nothing regs (late_fits from b m whole.fits);
+      pending = refl;
+    }
 
 pub begun_whole : (m : Run) → IsWhole m → IsWhole (begun m)
 begun_whole m whole = record {
-  fits = record { count = whole.fits.count; pred_count = whole.fits.pred_count; zero = whole.fits.zero; always = whole.fits.always };
+  fits = record {
+    count = whole.fits.count;
+    pred_count = whole.fits.pred_count;
+    zero = whole.fits.zero;
+    always = whole.fits.always;
+  };
   pending = whole.pending;
 }
 
@@ -79,7 +92,8 @@ run_append from [] ys m = refl
 run_append from (does b ∷ xs) ys m = run_append from xs ys (once from b m)
 run_append from (begins ∷ xs) ys m = run_append from xs ys (begun m)
 
-pub late_append : (from : Sources) (xs ys : List Step) (m : Run) → run_late from (xs ++ ys) m ≡ run_late from ys (run_late from xs m)
+pub late_append : (from : Sources) (xs ys : List Step) (m : Run) → run_late from (xs ++ ys) m
+    ≡ run_late from ys (run_late from xs m)
 late_append from [] ys m = refl
 late_append from (does b ∷ xs) ys m = late_append from xs ys (late from b m)
 late_append from (begins ∷ xs) ys m = late_append from xs ys (begun m)

@@ -47,7 +47,7 @@ pub fn worked_runs()
     ensures at_once { word_in (run by_words (all_done (small.load ∷ small.add 1 ∷ [])) small.beginning).regs 1 ≡ 8 }
     ensures late { word_in (settled
         (run_late by_words (all_done (small.load ∷ small.add 1 ∷ [])) small.beginning).regs) 1 ≡ 1 }
-    ensures late_behind { word_in (settled
+    ensures late_after { word_in (settled
         (run_late by_words (all_done (small.load ∷ small.idle ∷ small.add 1 ∷ [])) small.beginning).regs) 1 ≡ 8 }
     ensures product { (run by_words (all_done (small.load ∷ small.square ∷ [])) small.beginning).regs.sl ≡ 49 }
     ensures given { word_in (run by_list (all_done (small.load ∷ small.add 1 ∷ [])) small.beginning).regs 1 ≡ 6 }

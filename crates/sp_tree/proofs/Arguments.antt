@@ -16,11 +16,13 @@ worth_at [] n e s below is = absurd (omega arith)
 worth_at (x ∷ args) zero e s below is = ap (λ y. worth (plain_sp y) s) (sym is)
 worth_at (x ∷ args) (suc n) e s below is = worth_at args n e s (omega arith) is
 
-pub worth_past : (args : List SpExpr) (n : ℕ) (s : State) → length args ≤ n → slice_index (args_worth (map plain_sp args) s) n ≡ 0
+pub worth_past : (args : List SpExpr) (n : ℕ) (s : State) → length args ≤ n
+    → slice_index (args_worth (map plain_sp args) s) n ≡ 0
 worth_past args n s past = get_or_past (args_worth (map plain_sp args) s) n 0 (omega (arith, length_worth args s))
 
 -- lists of words that are the same as far as one reaches, where the other is no longer
-pub same_words : (own words : List ℕ) → ((k : ℕ) → k < length own → slice_index own k ≡ slice_index words k) → length words ≤ length own
+pub same_words : (own words : List ℕ) → ((k : ℕ) → k < length own → slice_index own k ≡ slice_index words k)
+    → length words ≤ length own
     → slice_index own ≡ slice_index words
 same_words own words same short = λ i k. at k i
   where

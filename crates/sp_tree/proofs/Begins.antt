@@ -21,7 +21,8 @@ none_held false x none = refl
 laid_first : (initial : List ℕ) (k : ℕ) → laid 4 (length initial) initial (λ _. 0) k ≡ first_private initial k
 laid_first initial k = elim (cases_lt (k - 4) (length initial)) [
   | inl below ↦
-      ap (λ b. if nat_le 4 k && (b && b) then slice_index initial (k - 4) else 0) (lt-ltb (k - 4) (length initial) below)
+      ap (λ b. if nat_le 4 k && (b && b) then slice_index initial (k - 4) else 0)
+      (lt-ltb (k - 4) (length initial) below)
       ∙ both_held (nat_le 4 k) (slice_index initial (k - 4))
   | inr past ↦
       ap (λ b. if nat_le 4 k && (b && b) then slice_index initial (k - 4) else 0) (le-ltb (k - 4) (length initial) past)

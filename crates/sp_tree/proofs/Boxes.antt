@@ -9,11 +9,13 @@ use Rattle.sp_tree.specs.declared.operators.SpUnary.{SpUnary}
 use Rattle.sp_tree.specs.declared.operators.SpBinary.{SpBinary}
 use Rattle.sp_tree.specs.Plain.{plain_sp, array_word, before_one, between_two}
 
-pub plain_element : (array : SpArray) (index : SpExpr) (b : Box SpExpr Global) → b.value ≡ index → plain_sp (Element array b) ≡ array_word array (plain_sp index)
+pub plain_element : (array : SpArray) (index : SpExpr) (b : Box SpExpr Global) → b.value ≡ index
+    → plain_sp (Element array b) ≡ array_word array (plain_sp index)
 unfolding plain_sp
 plain_element array index b is = ap (λ e. array_word array (plain_sp e)) is
 
-pub plain_unary : (op : SpUnary) (of : SpExpr) (b : Box SpExpr Global) → b.value ≡ of → plain_sp (Unary op b) ≡ before_one op (plain_sp of)
+pub plain_unary : (op : SpUnary) (of : SpExpr) (b : Box SpExpr Global) → b.value ≡ of → plain_sp (Unary op b)
+    ≡ before_one op (plain_sp of)
 unfolding plain_sp
 plain_unary op of b is = ap (λ e. before_one op (plain_sp e)) is
 

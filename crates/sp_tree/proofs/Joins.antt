@@ -10,7 +10,8 @@ use Rattle.sp_tree.specs.Statements.{PlainStmts, no_stmt, stmt, PlainFunction, j
 use Rattle.sp_tree.specs.Straight.{State, Serves, stmt_done, stmts_done}
 use Rattle.sp_tree.specs.Uses.{stmt_uses, stmts_uses}
 
-pub joined_done : (g : Serves) (xs ys : PlainStmts) (s : State) → stmts_done g (joined xs ys) s ≡ stmts_done g ys (stmts_done g xs s)
+pub joined_done : (g : Serves) (xs ys : PlainStmts) (s : State) → stmts_done g (joined xs ys) s
+    ≡ stmts_done g ys (stmts_done g xs s)
 joined_done g no_stmt ys s = refl
 joined_done g (stmt t rest) ys s = joined_done g rest ys (stmt_done g t s)
 
@@ -36,7 +37,8 @@ joined_levels (stmt t rest) ys = let more = joined_levels rest ys in omega (arit
 pub joined_uses : (xs ys : PlainStmts) → stmts_uses (joined xs ys) ≡ stmts_uses xs ++ stmts_uses ys
 joined_uses no_stmt ys = refl
 joined_uses (stmt t rest) ys =
-    ap (λ us. stmt_uses t ++ us) (joined_uses rest ys) ∙ sym (append_assoc (stmt_uses t) (stmts_uses rest) (stmts_uses ys))
+    ap (λ us. stmt_uses t ++ us) (joined_uses rest ys) ∙ sym (append_assoc (stmt_uses t) (stmts_uses rest)
+    (stmts_uses ys))
 
 pub joined_shown : (xs ys : List SpStmt) → stmts_of (xs ++ ys) ≡ joined (stmts_of xs) (stmts_of ys)
 joined_shown [] ys = refl

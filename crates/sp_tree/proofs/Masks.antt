@@ -8,14 +8,16 @@ use Rattle.sp_tree.specs.Straight.{State, Serves, args_worth, in_world, where_on
 pub off : (mask : ℕ) (change : State → State) (s : State) → s.frame mask ≢ 1 → where_on mask change s ≡ s
 off mask change s is = ap (λ b. if b then change s else s) (ne_eqb (s.frame mask) 1 is)
 
-pub write_off : (g : Serves) (mask : ℕ) (target : PlainSpTarget) (e : PlainSp) (s : State) → s.frame mask ≢ 1 → stmt_done g (writes mask target e) s ≡ s
+pub write_off : (g : Serves) (mask : ℕ) (target : PlainSpTarget) (e : PlainSp) (s : State) → s.frame mask ≢ 1
+    → stmt_done g (writes mask target e) s ≡ s
 write_off g mask target e s is = off mask (write_done target e) s is
 
 pub send_off : (g : Serves) (mask core : ℕ) (source target count : PlainSp) (s : State) → s.frame mask ≢ 1
     → stmt_done g (transfers mask core source target count) s ≡ s
 send_off g mask core source target count s is = off mask (transfer_done core source target count) s is
 
-pub overrun_off : (g : Serves) (mask : ℕ) (e : PlainSp) (s : State) → s.frame mask ≢ 1 → stmt_done g (overruns mask e) s ≡ s
+pub overrun_off : (g : Serves) (mask : ℕ) (e : PlainSp) (s : State) → s.frame mask ≢ 1 → stmt_done g (overruns mask e) s
+    ≡ s
 overrun_off g mask e s is = off mask (overrun_done e) s is
 
 pub call_off : (g : Serves) (mask k : ℕ) (args : List PlainSp) (given : Option ℕ) (s : State) → s.frame mask ≢ 1

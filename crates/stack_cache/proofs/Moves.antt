@@ -26,10 +26,12 @@ pub record Reserves (st ss n ss' : ℕ) : Type 0 where
 module _ (st ss n ss' : ℕ) (r : Reserves st ss n ss') where
   module _ (old new : List ℕ) (zeros : (word : ℕ) → st - n ≤ word → word < st → slot new word ≡ 0)
       (others : (word : ℕ) → st ≤ word → word < st - n + 128 → slot new word ≡ slot old word) where
-    get_reserved : (i d : ℕ) → i < ss' - (st - n) → slot new (st - n + i) ≡ get_or (replicate n 0 ++ held old st (ss - st)) i d
+    get_reserved : (i d : ℕ) → i < ss' - (st - n) → slot new (st - n + i)
+        ≡ get_or (replicate n 0 ++ held old st (ss - st)) i d
     get_reserved i d below = elim (cases_lt i n) [
       | inl low ↦ zeros (st - n + i) (omega arith) (omega arith) ∙ sym (get_zero n old st (ss - st) i d low)
-      | inr high ↦ others (st - n + i) (omega arith) (omega arith) ∙ ap (slot old) (omega arith) ∙ sym (get_old n old st (ss - st) i d high (omega arith))
+      | inr high ↦ others (st - n + i) (omega arith) (omega arith) ∙ ap (slot old) (omega arith)
+          ∙ sym (get_old n old st (ss - st) i d high (omega arith))
     ]
 
     words_reserved : held new (st - n) (ss' - (st - n)) ≡ take 128 (replicate n 0 ++ held old st (ss - st))
@@ -56,14 +58,16 @@ module _ (st ss n ss' : ℕ) (r : Reserves st ss n ss') where
       get_held slots ss' (ss - ss') i d low ∙ ap (slot slots) (omega arith)
       ∙ sym (get_or-drop 128 grown i d ∙ get_old n slots st (ss - st) (128 + i) d (omega arith) (omega arith)))
 
-  pub memory_is : (slots private : List ℕ) → with_words private ss' (held slots ss' (ss - ss')) ≡ with_spilled n (shown st ss slots) private
+  pub memory_is : (slots private : List ℕ) → with_words private ss' (held slots ss' (ss - ss'))
+      ≡ with_spilled n (shown st ss slots) private
   memory_is slots private = ap₂ (with_words private) r.pointer (spilled_is slots)
 
   pub moved_out : (slots : List ℕ) → ss - ss' ≡ length (spilled n (shown st ss slots))
   moved_out slots = sym (length_held slots ss' (ss - ss')) ∙ ap length (spilled_is slots)
 
   pub own_are : (slots private : List ℕ) → length private ≡ 65536 → (word : ℕ) → ss' ≤ word → word < ss
-      → get_or (with_words private ss' (held slots ss' (ss - ss'))) word 0 ≡ get_or (shown st ss slots).words (word - st) 0
+      → get_or (with_words private ss' (held slots ss' (ss - ss'))) word 0
+      ≡ get_or (shown st ss slots).words (word - st) 0
   own_are slots private whole word low high =
       let written : List ℕ = held slots ss' (ss - ss') in
       let long = length_held slots ss' (ss - ss') in
@@ -98,7 +102,8 @@ module _ (st ss n ss' : ℕ) (r : Reaches st ss n ss') where
     pointer_filled : ss' ≡ ss + (n - length (held old st (ss - st)))
     pointer_filled = omega (arith, length_held old st (ss - st))
 
-    words_filled : held new st (ss' - st) ≡ held old st (ss - st) ++ take (n - length (held old st (ss - st))) (drop ss private)
+    words_filled : held new st (ss' - st) ≡ held old st (ss - st) ++ take (n - length (held old st (ss - st)))
+        (drop ss private)
     words_filled =
         let kept : List ℕ = held old st (ss - st) in
         let more : ℕ = n - length kept in
@@ -111,7 +116,8 @@ module _ (st ss n ss' : ℕ) (r : Reaches st ss n ss') where
         let low : i < ss' - st = omega (arith, long) in
         get_held new st (ss' - st) i d low ∙ elim (cases_lt i (ss - st)) [
           | inl at_hand ↦ others (st + i) (omega arith) (omega arith)
-              ∙ sym (get_or_append_left kept (take more (drop ss private)) d i (omega (arith, short)) ∙ get_held old st (ss - st) i d at_hand)
+              ∙ sym (get_or_append_left kept (take more (drop ss private)) d i (omega (arith, short))
+              ∙ get_held old st (ss - st) i d at_hand)
           | inr past ↦ brought (st + i) (omega arith) (omega arith)
               ∙ get_or_default private (st + i) 0 d (omega arith)
               ∙ ap (λ k. get_or private k d) (omega arith)
@@ -142,7 +148,9 @@ pub get_is : (st ss i : ℕ) (slots : List ℕ) → i < ss - st → slot slots (
 get_is st ss i slots within = sym (get_held slots st (ss - st) i 0 within)
 
 pub set_is : (st ss i v : ℕ) (slots : List ℕ) → length slots ≡ 128 → AreInRange st ss → i < ss - st
-    → shown st ss (set slots ((st + i) % 128) v) ≡ record (shown st ss slots) { words = set (shown st ss slots).words i v }
+    → shown st ss (set slots ((st + i) % 128) v) ≡ record (shown st ss slots) {
+      words = set (shown st ss slots).words i v;
+    }
 set_is st ss i v slots whole range within =
     let at : ℕ = (st + i) % 128 in
     let after : List ℕ = set slots at v in

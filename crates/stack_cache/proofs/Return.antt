@@ -19,7 +19,8 @@ module _ (n : ℕ) (words : List ℕ) (few : n ≤ 128) where
       ∙ ap (drop (128 - n)) (drop_at (replicate n 0) words n (length-replicate n 0))
 
 -- words written to memory and read from there again
-pub read_back : (memory words : List ℕ) (at count : ℕ) → at ≤ length memory → count ≡ length words → take count (drop at (with_words memory at words)) ≡ words
+pub read_back : (memory words : List ℕ) (at count : ℕ) → at ≤ length memory → count ≡ length words
+    → take count (drop at (with_words memory at words)) ≡ words
 read_back memory words at count fits whole =
     let others : List ℕ = drop (at + length words) memory in
     ap (take count) (drop_at (take at memory) (words ++ others) at (length-take-le at memory fits))
@@ -38,7 +39,9 @@ back_is n s private h whole few room =
     let back : take lack (drop end (with_words private end (drop (128 - n) s.words))) ≡ drop (128 - n) s.words =
     read_back private (drop (128 - n) s.words) end lack (omega (arith, h)) (omega (arith, stays, goes)) in
     let top : s.st - n + n ≡ s.st = omega arith in
-    let pointer : max end (s.st - n + n) + (length s.words - length (drop n (take 128 (grown n s)))) ≡ s.ss = omega (arith, h, ap length prefix, stays) in
-    let words : drop n (take 128 (grown n s)) ++ take (length s.words - length (drop n (take 128 (grown n s)))) (drop (max end (s.st - n + n)) (with_words private end (drop 128 (grown n s)))) ≡ s.words =
+    let pointer : max end (s.st - n + n) + (length s.words - length (drop n (take 128 (grown n s)))) ≡ s.ss =
+    omega (arith, h, ap length prefix, stays) in
+    let words : drop n (take 128 (grown n s)) ++ take (length s.words - length (drop n (take 128 (grown n s)))) (drop
+    (max end (s.st - n + n)) (with_words private end (drop 128 (grown n s)))) ≡ s.words =
     rw (prefix, lost, same_end, back) (take-append-drop (128 - n) s.words) in
     λ k. record { st = top k; ss = pointer k; words = words k }

@@ -15,7 +15,8 @@ use Rattle.c_task.proofs.Runs.{program_runs}
 use Rattle.start_times.proofs.Starting.{slotted, times_from, from_later, from_slot, times_are}
 use Rattle.start_times.proofs.Worst.{HasClock}
 
-pub code_clock : (place : Place) (s : PlainShape) (addresses : List ℕ) → IsLinkable s → Behaves s place addresses → HasClock place (λ p. times_at p s) (times_from place s addresses)
+pub code_clock : (place : Place) (s : PlainShape) (addresses : List ℕ) → IsLinkable s → Behaves s place addresses
+    → HasClock place (λ p. times_at p s) (times_from place s addresses)
 code_clock place s addresses fits same = record {
   slots = slotted place s;
   is = λ other core. times_are place other s addresses fits same core;
@@ -25,9 +26,11 @@ code_clock place s addresses fits same = record {
 
 -- the times of a program that is valid on its core, from a start
 abbrev pub times_on : (place : Place) (items : List PlainItem) → IsValid items place.cores place.core → ℕ → Times
-times_on place items valid = times_from place (code_of (single items)) (asking (single items) (program_runs place items valid).formed).cached
+times_on place items valid =
+    times_from place (code_of (single items)) (asking (single items) (program_runs place items valid).formed).cached
 
-pub program_clock : (place : Place) (items : List PlainItem) (valid : IsValid items place.cores place.core) → IsCode (single items) → HasClock place (λ p. times p items) (times_on place items valid)
+pub program_clock : (place : Place) (items : List PlainItem) (valid : IsValid items place.cores place.core)
+    → IsCode (single items) → HasClock place (λ p. times p items) (times_on place items valid)
 program_clock place items valid code =
     code_clock place (code_of (single items)) (asking (single items) (program_runs place items valid).formed).cached
     (link (single items) code) (behaves (single items) place (program_runs place items valid) code)

@@ -35,17 +35,22 @@ module _ (table : List ℕ) (slot core : ℕ) (has : HasSlots table slot core) w
         from = beyond t (start_from table slot core t) here.from here.passes other;
         least = λ v from own. here.least v (omega (arith, from)) own;
       } in
-      next_same starts (t + 1) (start_from table slot core t) (start_from table slot core (t + 1)) after (start_is_next table slot core (t + 1) has)
+      next_same starts (t + 1) (start_from table slot core t) (start_from table slot core (t + 1)) after
+      (start_is_next table slot core (t + 1) has)
 
   -- an own slot that starts in the first period ends there
   ends_within : (u : ℕ) → u < period table slot → starts u ≡ true → u + slot ≤ period table slot
   ends_within u first own =
-      let edge : u % slot ≡ 0 = eqb-true (u % slot) 0 (and_parts (u % slot == 0) (is_owned table core (u / slot)) own).0 in
+      let edge : u % slot ≡ 0 =
+      eqb-true (u % slot) 0 (and_parts (u % slot == 0) (is_owned table core (u / slot)) own).0 in
       let number : u / slot < length table = div_below u slot (length table) has.lasts first in
-      let next : (u / slot + 1) * slot ≤ length table * slot = mul-le (u / slot + 1) slot (length table) slot (omega (arith, number)) (omega arith) in
+      let next : (u / slot + 1) * slot ≤ length table * slot =
+      mul-le (u / slot + 1) slot (length table) slot (omega (arith, number)) (omega arith) in
       omega (arith, next, edge, div-add-mod' u slot)
 
-  module _ (end : ℕ → ℕ) (later : (periods t : ℕ) → end (t + periods * period table slot) ≡ end t + periods * period table slot) (same : (t u : ℕ) → start_from table slot core t ≡ start_from table slot core u → end t ≡ end u) where
+  module _ (end : ℕ → ℕ) (later : (periods t : ℕ) → end (t + periods * period table slot) ≡ end t + periods
+      * period table slot) (same : (t u : ℕ) → start_from table slot core t ≡ start_from table slot core u
+      → end t ≡ end u) where
     -- no more than from the cycle after the beginning of an own slot
     pub record IsMissed (t : ℕ) : Type 0 where
       pub slot_start : ℕ
@@ -65,7 +70,8 @@ module _ (table : List ℕ) (slot core : ℕ) (has : HasSlots table slot core) w
         by false is rest = elim (cases_lt k count) [
           | inl less ↦
               let before : IsMissed (t + count) = rest less in
-              let ends : end (t + count) ≡ end (t + suc count) = same (t + count) (t + count + 1) (passed (t + count) is) ∙ ap end next in
+              let ends : end (t + count) ≡ end (t + suc count) =
+              same (t + count) (t + count + 1) (passed (t + count) is) ∙ ap end next in
               record { slot_start = before.slot_start; own = before.own; longer = omega (arith, before.longer, ends) }
           | inr last ↦
               let there : k ≡ count = omega (arith, near, last) in
@@ -86,7 +92,8 @@ module _ (table : List ℕ) (slot core : ℕ) (has : HasSlots table slot core) w
         let whole : u ≡ u / n * n + u % n = omega (arith, div-add-mod' u n) in
         let shift : u + 1 ≡ u % n + 1 + u / n * n = omega (arith, whole) in
         let ends : end (u + 1) ≡ end (u % n + 1) + u / n * n = ap end shift ∙ later (u / n) (u % n + 1) in
-        let own : starts (u % n) ≡ true = sym (rounds_on table slot core (u / n) (u % n) has.lasts) ∙ sym (ap starts whole) ∙ m.own in
+        let own : starts (u % n) ≡ true =
+        sym (rounds_on table slot core (u / n) (u % n) has.lasts) ∙ sym (ap starts whole) ∙ m.own in
         record {
           slot_start = u % n;
           first = ends_within (u % n) (mod_below u n (some_period table slot core has)) own;
@@ -100,6 +107,17 @@ module _ (table : List ℕ) (slot core : ℕ) (has : HasSlots table slot core) w
         let next : IsNext starts t (start_from table slot core t) = start_is_next table slot core t has in
         let k : ℕ = start_from table slot core t - t in
         let there : t + k ≡ start_from table slot core t = omega (arith, next.from) in
-        let far : (k + 1) * 1 ≤ (k + 1) * n = mul-le (k + 1) 1 (k + 1) n (omega arith) (some_period table slot core has) in
-        let m : IsMissedFirst (t + (k + 1) * n) = missed_first (t + (k + 1) * n) (back_to ((k + 1) * n) t k (omega (arith, far)) (ap starts there ∙ next.passes)) in
-        record { slot_start = m.slot_start; first = m.first; own = m.own; longer = omega (arith, m.longer, later (k + 1) t) }
+        let far : (k + 1) * 1 ≤ (k + 1) * n =
+        mul-le (k + 1) 1 (k + 1) n (omega arith) (some_period table slot core has) in
+        let m : IsMissedFirst (t + (k + 1) * n) = missed_first (t + (k + 1) * n)
+        (back_to ((k + 1) * n) t k (omega (arith, far)) (ap starts there ∙ next.passes)) in
+        record {
+          slot_start = m.slot_start;
+          first = m.first;
+          own = m.own;
+          longer = omega (
+            arith,
+            m.longer,
+            later (k + 1) t,
+          );
+        }

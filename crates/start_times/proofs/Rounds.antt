@@ -15,15 +15,18 @@ use Rattle.core_pace.proofs.SlotStarts.{rounds_on}
 use Rattle.start_times.proofs.Steps.{pace_at, carried_at, clock_at}
 
 -- a test that comes round is passed so much later
-first_later : (test : ℕ → Bool) (far : ℕ) → ((t : ℕ) → test (t + far) ≡ test t) → (count t : ℕ) → first_passing test count (t + far) ≡ first_passing test count t + far
+first_later : (test : ℕ → Bool) (far : ℕ) → ((t : ℕ) → test (t + far) ≡ test t) → (count t : ℕ)
+    → first_passing test count (t + far) ≡ first_passing test count t + far
 first_later test far round zero t = refl
 first_later test far round (suc count) t =
-    ap (λ b. elim b as (λ _. ℕ) [ true ↦ t + far | false ↦ first_passing test count (t + far + 1) ]) (round t) ∙ by (test t) (first_later test far round count (t + 1))
+    ap (λ b. elim b as (λ _. ℕ) [ true ↦ t + far | false ↦ first_passing test count (t + far + 1) ]) (round t)
+    ∙ by (test t) (first_later test far round count (t + 1))
   where
     next : t + far + 1 ≡ t + 1 + far
     next = omega arith
 
-    by : (b : Bool) → first_passing test count (t + 1 + far) ≡ first_passing test count (t + 1) + far → elim b as (λ _. ℕ) [ true ↦ t + far | false ↦ first_passing test count (t + far + 1) ]
+    by : (b : Bool) → first_passing test count (t + 1 + far) ≡ first_passing test count (t + 1) + far
+        → elim b as (λ _. ℕ) [ true ↦ t + far | false ↦ first_passing test count (t + far + 1) ]
         ≡ (elim b as (λ _. ℕ) [ true ↦ t | false ↦ first_passing test count (t + 1) ]) + far
     by true rest = refl
     by false rest = ap (first_passing test count) next ∙ rest
@@ -33,26 +36,34 @@ abbrev pub started : Site → ℕ → Site
 started site start = record site { start = start }
 
 module _ (site : Site) where
-  pub period_later : IsSlotted site → (periods t : ℕ) → start_in site (t + periods * period site.table site.slot) ≡ start_in site t + periods * period site.table site.slot
+  pub period_later : IsSlotted site → (periods t : ℕ) → start_in site (t + periods * period site.table site.slot)
+      ≡ start_in site t + periods * period site.table site.slot
   period_later slots periods t =
       let far : ℕ = periods * period site.table site.slot in
-      let round : (u : ℕ) → is_slot_start site.table site.slot site.core (u + far) ≡ is_slot_start site.table site.slot site.core u =
-      λ u. let iteration : u + far ≡ far + u = omega arith in ap (is_slot_start site.table site.slot site.core) iteration ∙ rounds_on site.table site.slot site.core periods u slots.lasts in
+      let round : (u : ℕ) → is_slot_start site.table site.slot site.core (u + far)
+      ≡ is_slot_start site.table site.slot site.core u =
+      λ u. let iteration : u + far ≡ far + u = omega arith in
+      ap (is_slot_start site.table site.slot site.core) iteration
+      ∙ rounds_on site.table site.slot site.core periods u slots.lasts in
       first_later (is_slot_start site.table site.slot site.core) far round (period site.table site.slot) t
 
   -- whole periods later
-  pub clock_later : (slots : IsSlotted site) (periods t : ℕ) (es : List Event) → let far = periods * period site.table site.slot in
+  pub clock_later : (slots : IsSlotted site) (periods t : ℕ) (es : List Event) → let far =
+      periods * period site.table site.slot in
       clock (started site (t + far)) es (starting (started site (t + far)))
-      ≡ pace_at (started site t) (started site (t + far)) (λ u. u + far) (λ u. omega arith) (λ u. omega arith) (period_later slots periods) (clock (started site t) es (starting (started site t)))
+      ≡ pace_at (started site t) (started site (t + far)) (λ u. u + far) (λ u. omega arith) (λ u. omega arith)
+      (period_later slots periods) (clock (started site t) es (starting (started site t)))
   clock_later slots periods t es =
       let far : ℕ = periods * period site.table site.slot in
-      clock_at (started site t) (started site (t + far)) (λ u. u + far) (λ u. omega arith) (λ u. omega arith) (period_later slots periods) es (starting (started site t))
+      clock_at (started site t) (started site (t + far)) (λ u. u + far) (λ u. omega arith) (λ u. omega arith)
+      (period_later slots periods) es (starting (started site t))
 
   -- the clock itself does not look at the start
   still : (p : Pace) → record p { accesses = map (λ a. a) p.accesses } ≡ p
   still p = λ i. record p { accesses = map-id p.accesses i }
 
-  clock_any : (start other : ℕ) (es : List Event) (p : Pace) → clock (started site other) es p ≡ clock (started site start) es p
+  clock_any : (start other : ℕ) (es : List Event) (p : Pace) → clock (started site other) es p
+      ≡ clock (started site start) es p
   clock_any start other es p =
       sym (ap (clock (started site other) es) (still p))
       ∙ clock_at (started site start) (started site other) (λ u. u) (λ u. refl) (λ u. refl) (λ u. refl) es p
@@ -65,7 +76,8 @@ module _ (site : Site) where
       ∙ still (carried (started site start) p)
 
   -- words are moved from the next slot on
-  carried_next : (t u : ℕ) (p : Pace) → 0 < p.words → start_in site t ≡ start_in site u → carried site (record p { free = t }) ≡ carried site (record p { free = u })
+  carried_next : (t u : ℕ) (p : Pace) → 0 < p.words → start_in site t ≡ start_in site u
+      → carried site (record p { free = t }) ≡ carried site (record p { free = u })
   carried_next t u p some next = by (p.words == 0) refl
     where
       slots : slots_of p.words ≡ suc ((p.words - 1) / 4)
@@ -81,23 +93,39 @@ module _ (site : Site) where
 
       by : (b : Bool) → (p.words == 0) ≡ b → elim b as (λ _. Pace) [
         | true ↦ record p { free = t }
-        | false ↦ record p { free = moved_by site t p.words; words = 0; line = None; accesses = p.accesses ++ accesses_from site t p.write p.words; loads = with_line p.line p.loads }
+        | false ↦ record p {
+          free = moved_by site t p.words;
+          words = 0;
+          line = None;
+          accesses = p.accesses
+              ++ accesses_from site t p.write p.words;
+          loads = with_line p.line p.loads;
+        }
       ] ≡ elim b as (λ _. Pace) [
         | true ↦ record p { free = u }
-        | false ↦ record p { free = moved_by site u p.words; words = 0; line = None; accesses = p.accesses ++ accesses_from site u p.write p.words; loads = with_line p.line p.loads }
+        | false ↦ record p {
+          free = moved_by site u p.words;
+          words = 0;
+          line = None;
+          accesses = p.accesses
+              ++ accesses_from site u p.write p.words;
+          loads = with_line p.line p.loads;
+        }
       ]
       by true none = absurd (omega (arith, some, eqb-true p.words 0 none))
       by false some = λ i. record p {
         free = ends (slots_of p.words) slots i;
         words = 0;
         line = None;
-        accesses = p.accesses ++ in_cycles (cycles (slots_of p.words) slots i) (bursts_in (slots_of p.words) p.write p.words);
+        accesses = p.accesses ++ in_cycles (cycles (slots_of p.words) slots i) (bursts_in (slots_of p.words)
+            p.write p.words);
         loads = with_line p.line p.loads;
       }
 
   -- a task that has the same slot first does all at the same cycles
   pub clock_from_slot : (t u : ℕ) (method : Method) (es : List Event) → start_in site t ≡ start_in site u
-      → clock (started site t) (came method ∷ es) (starting (started site t)) ≡ clock (started site u) (came method ∷ es) (starting (started site u))
+      → clock (started site t) (came method ∷ es) (starting (started site t))
+      ≡ clock (started site u) (came method ∷ es) (starting (started site u))
   clock_from_slot t u method es next =
       clock_any u t es (happened (started site t) (came method) (starting (started site t)))
       ∙ ap (clock (started site u) es)

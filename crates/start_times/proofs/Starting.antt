@@ -47,7 +47,8 @@ module _ (place : Place) (s : PlainShape) (addresses : List ℕ) where
   abbrev pub times_from : ℕ → Times
   times_from start = told (clock (started site start) (first_event site ∷ events) (starting (started site start)))
 
-  pub from_later : (periods start : ℕ) → times_from (start + periods * period place.table place.slot) ≡ times_later (periods * period place.table place.slot) (times_from start)
+  pub from_later : (periods start : ℕ) → times_from (start + periods * period place.table place.slot)
+      ≡ times_later (periods * period place.table place.slot) (times_from start)
   from_later periods start = ap told (clock_later site (slotted place s) periods start (first_event site ∷ events))
 
   pub from_slot : (t u : ℕ) → start_in site t ≡ start_in site u → times_from t ≡ times_from u
@@ -57,14 +58,26 @@ module _ (place : Place) (s : PlainShape) (addresses : List ℕ) where
     own_times : times_at place s ≡ times_from place.start
     own_times =
         let slots : IsSlotted site = slotted place s in
-        ap times_in (stands_so place s addresses link behaves slots place.in_range.among [] [] (tt, tt) (bound_at place s) (omega arith))
+        ap times_in (stands_so place s addresses link behaves slots place.in_range.among [] [] (tt, tt)
+        (bound_at place s) (omega arith))
         ∙ ap told (all_passed place.cores place.core site [] [] (bundles_in (trail s)) slots).pace
-        ∙ ap (λ es. told (clock site es (starting site))) (ends place s addresses link behaves slots place.in_range.among [] [] (tt, tt)).events
+        ∙ ap (λ es. told (clock site es (starting site))) (ends place s addresses link behaves slots
+        place.in_range.among [] [] (tt, tt)).events
 
 -- they are the times of code at each place of the core
-pub times_are : (place other : Place) (s : PlainShape) (addresses : List ℕ) → IsLinkable s → Behaves s place addresses → IsSameCore place other → times_at other s ≡ times_from place s addresses other.start
+pub times_are : (place other : Place) (s : PlainShape) (addresses : List ℕ) → IsLinkable s → Behaves s place addresses
+    → IsSameCore place other → times_at other s ≡ times_from place s addresses other.start
 times_are place other s addresses link behaves same =
     let there : started (site_of other (linked s)) other.start ≡ started (site_of place (linked s)) other.start =
-    λ i. record { cores = same.cores i; core = same.core i; slot = same.slot i; table = same.table i; start = other.start; image = linked s } in
+    λ i. record {
+      cores = same.cores i;
+      core = same.core i;
+      slot = same.slot i;
+      table = same.table i;
+      start = other.start;
+      image = linked s;
+    } in
     own_times other s addresses link (behaves_still place other s addresses same behaves)
-    ∙ ap (λ (site : Site). told (clock site (first_event site ∷ fixed_events (linked s) (trail s) (dues_of s (back 0 0)) addresses) (starting site))) there
+    ∙ ap (λ (site : Site). told
+    (clock site (first_event site ∷ fixed_events (linked s) (trail s) (dues_of s (back 0 0)) addresses)
+    (starting site))) there

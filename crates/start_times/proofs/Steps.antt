@@ -9,7 +9,9 @@ use Rattle.patmos_model.specs.Bursts.{Burst, slots_of, bursts_in, in_cycles}
 use Rattle.core_pace.specs.Pace.{Pace, Event, quick, load, cached, store, stack, came, is_loaded, asks, asked_by, with_line, carried, happened, clock}
 use Rattle.core_pace.specs.Spans.{start_in, cycles_from, end_from, accesses_from, moved_by}
 
-module _ (site other : Site) (to : ℕ → ℕ) (next : (t : ℕ) → to (t + 1) ≡ to t + 1) (slot : (t : ℕ) → to (t + site.slot) ≡ to t + other.slot) (wait : (t : ℕ) → start_in other (to t) ≡ to (start_in site t)) where
+module _ (site other : Site) (to : ℕ → ℕ) (next : (t : ℕ) → to (t + 1) ≡ to t + 1)
+    (slot : (t : ℕ) → to (t + site.slot) ≡ to t + other.slot)
+    (wait : (t : ℕ) → start_in other (to t) ≡ to (start_in site t)) where
   abbrev pub access_at : Access → Access
   access_at a = record a { cycle = to a.cycle }
 
@@ -27,16 +29,20 @@ module _ (site other : Site) (to : ℕ → ℕ) (next : (t : ℕ) → to (t + 1)
   cycles_at : (count t : ℕ) → cycles_from other count (to t) ≡ map to (cycles_from site count t)
   cycles_at zero t = refl
   cycles_at (suc count) t =
-      let rest : cycles_from other count (start_in other (to t) + other.slot) ≡ map to (cycles_from site count (start_in site t + site.slot)) =
+      let rest : cycles_from other count (start_in other (to t) + other.slot)
+      ≡ map to (cycles_from site count (start_in site t + site.slot)) =
       ap (cycles_from other count) (slot_ends t) ∙ cycles_at count (start_in site t + site.slot) in
       (λ i. wait t i ∷ rest i)
 
-  moved_cycles : (cycles : List ℕ) (bs : List Burst) → in_cycles (map to cycles) bs ≡ map access_at (in_cycles cycles bs)
+  moved_cycles : (cycles : List ℕ) (bs : List Burst) → in_cycles (map to cycles) bs
+      ≡ map access_at (in_cycles cycles bs)
   moved_cycles [] bs = refl
   moved_cycles (cycle ∷ cycles) [] = refl
-  moved_cycles (cycle ∷ cycles) (b ∷ bs) = ap (λ l. record { cycle = to cycle; write = b.write; words = b.words } ∷ l) (moved_cycles cycles bs)
+  moved_cycles (cycle ∷ cycles) (b ∷ bs) =
+      ap (λ l. record { cycle = to cycle; write = b.write; words = b.words } ∷ l) (moved_cycles cycles bs)
 
-  accesses_at : (t : ℕ) (write : Bool) (words : ℕ) → accesses_from other (to t) write words ≡ map access_at (accesses_from site t write words)
+  accesses_at : (t : ℕ) (write : Bool) (words : ℕ) → accesses_from other (to t) write words
+      ≡ map access_at (accesses_from site t write words)
   accesses_at t write words =
       ap (λ cycles. in_cycles cycles (bursts_in (slots_of words) write words)) (cycles_at (slots_of words) t)
       ∙ moved_cycles (cycles_from site (slots_of words) t) (bursts_in (slots_of words) write words)
@@ -44,7 +50,8 @@ module _ (site other : Site) (to : ℕ → ℕ) (next : (t : ℕ) → to (t + 1)
   pub carried_at : (p : Pace) → carried other (pace_at p) ≡ pace_at (carried site p)
   carried_at p = by (p.words == 0)
     where
-      all : map access_at p.accesses ++ accesses_from other (to p.free) p.write p.words ≡ map access_at (p.accesses ++ accesses_from site p.free p.write p.words)
+      all : map access_at p.accesses ++ accesses_from other (to p.free) p.write p.words
+          ≡ map access_at (p.accesses ++ accesses_from site p.free p.write p.words)
       all =
           ap (λ l. map access_at p.accesses ++ l) (accesses_at p.free p.write p.words)
           ∙ sym (map-append access_at p.accesses (accesses_from site p.free p.write p.words))
@@ -116,7 +123,12 @@ module _ (site other : Site) (to : ℕ → ℕ) (next : (t : ℕ) → to (t + 1)
     where
       by : (b : Bool) → elim b as (λ _. Pace) [
         | true ↦ record (pace_at p) { write = false; words = 0; line = None; misses = touched p.misses method }
-        | false ↦ record (pace_at p) { write = false; words = method.words + 1; line = None; misses = touched p.misses method }
+        | false ↦ record (pace_at p) {
+          write = false;
+          words = method.words + 1;
+          line = None;
+          misses = touched p.misses method;
+        }
       ] ≡ pace_at (elim b as (λ _. Pace) [
         | true ↦ record p { write = false; words = 0; line = None; misses = touched p.misses method }
         | false ↦ record p { write = false; words = method.words + 1; line = None; misses = touched p.misses method }
@@ -126,4 +138,5 @@ module _ (site other : Site) (to : ℕ → ℕ) (next : (t : ℕ) → to (t + 1)
 
   pub clock_at : (es : List Event) (p : Pace) → clock other es (pace_at p) ≡ pace_at (clock site es p)
   clock_at [] p = refl
-  clock_at (e ∷ es) p = ap (clock other es) (ap (carried other) (asked_at e p) ∙ carried_at (asked_by e p)) ∙ clock_at es (happened site e p)
+  clock_at (e ∷ es) p = ap (clock other es) (ap (carried other) (asked_at e p) ∙ carried_at (asked_by e p))
+      ∙ clock_at es (happened site e p)

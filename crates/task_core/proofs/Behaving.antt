@@ -86,12 +86,18 @@ module _ (Named : Use → Type 0) where
   local_read : (address : ℕ) → IsReadPlace Named mem.L address → IsLocalLoadable (cell_of mem.L address)
   local_read address (inl v) =
       let c = v.0 in
-      let parts = and_parts (nat_le (first_of c.region) c.word) (nat_lt c.word (room_in c.region all_rooms)) v.2.formed in
-      subst IsLocalLoadable (sym (variable_at c.region c.word mem.L address (ltb-true c.word (room_in c.region all_rooms) parts.1) v.2.space_is v.2.address_is)) (local_cell c.region c.word v.2.space_is)
+      let parts = and_parts (nat_le (first_of c.region) c.word) (nat_lt c.word (room_in c.region all_rooms))
+      v.2.formed in
+      subst IsLocalLoadable
+      (sym (variable_at c.region c.word mem.L address (ltb-true c.word (room_in c.region all_rooms) parts.1)
+      v.2.space_is v.2.address_is)) (local_cell c.region c.word v.2.space_is)
   local_read address (inr (inl v)) =
       let a = v.0 in
-      let parts = and_parts (nat_le (first_of a.region) a.first) (nat_le (a.first + a.length) (room_in a.region all_rooms)) v.2.formed in
-      subst IsLocalLoadable (sym (element_at a.region (a.first + v.2.index) mem.L address (omega (arith, v.2.within, leb-true (a.first + a.length) (room_in a.region all_rooms) parts.1)) v.2.space_is v.2.address_is))
+      let parts = and_parts (nat_le (first_of a.region) a.first) (nat_le (a.first + a.length)
+      (room_in a.region all_rooms)) v.2.formed in
+      subst IsLocalLoadable (sym (element_at a.region (a.first + v.2.index) mem.L address
+      (omega (arith, v.2.within, leb-true (a.first + a.length) (room_in a.region all_rooms) parts.1)) v.2.space_is
+      v.2.address_is))
       (local_element a.region (a.first + v.2.index) v.2.space_is)
   local_read address (inr (inr v)) = subst (λ a. IsLocalLoadable (cell_of mem.L a)) (sym v.2.address_is) tt
 
@@ -110,8 +116,11 @@ module _ (Named : Use → Type 0) where
   cached_read : (address : ℕ) → IsReadPlace Named mem.C address → IsMainLoadable (cell_of mem.C address)
   cached_read address (inl v) =
       let c = v.0 in
-      let parts = and_parts (nat_le (first_of c.region) c.word) (nat_lt c.word (room_in c.region all_rooms)) v.2.formed in
-      subst IsMainLoadable (sym (variable_at c.region c.word mem.C address (ltb-true c.word (room_in c.region all_rooms) parts.1) v.2.space_is v.2.address_is)) (main_cached c.region c.word v.2.space_is)
+      let parts = and_parts (nat_le (first_of c.region) c.word) (nat_lt c.word (room_in c.region all_rooms))
+      v.2.formed in
+      subst IsMainLoadable
+      (sym (variable_at c.region c.word mem.C address (ltb-true c.word (room_in c.region all_rooms) parts.1)
+      v.2.space_is v.2.address_is)) (main_cached c.region c.word v.2.space_is)
   cached_read address (inr (inl v)) = absurd (no_cached_element v.0.region v.2.space_is)
   cached_read address (inr (inr v)) = absurd (no_cached_element v.0.region v.2.space_is)
 
@@ -130,12 +139,18 @@ module _ (Named : Use → Type 0) where
   main_read : (address : ℕ) → IsReadPlace Named mem.M address → IsMainLoadable (cell_of mem.M address)
   main_read address (inl v) =
       let c = v.0 in
-      let parts = and_parts (nat_le (first_of c.region) c.word) (nat_lt c.word (room_in c.region all_rooms)) v.2.formed in
-      subst IsMainLoadable (sym (variable_at c.region c.word mem.M address (ltb-true c.word (room_in c.region all_rooms) parts.1) v.2.space_is v.2.address_is)) (main_cell c.region c.word v.2.space_is)
+      let parts = and_parts (nat_le (first_of c.region) c.word) (nat_lt c.word (room_in c.region all_rooms))
+      v.2.formed in
+      subst IsMainLoadable
+      (sym (variable_at c.region c.word mem.M address (ltb-true c.word (room_in c.region all_rooms) parts.1)
+      v.2.space_is v.2.address_is)) (main_cell c.region c.word v.2.space_is)
   main_read address (inr (inl v)) =
       let a = v.0 in
-      let parts = and_parts (nat_le (first_of a.region) a.first) (nat_le (a.first + a.length) (room_in a.region all_rooms)) v.2.formed in
-      subst IsMainLoadable (sym (element_at a.region (a.first + v.2.index) mem.M address (omega (arith, v.2.within, leb-true (a.first + a.length) (room_in a.region all_rooms) parts.1)) v.2.space_is v.2.address_is))
+      let parts = and_parts (nat_le (first_of a.region) a.first) (nat_le (a.first + a.length)
+      (room_in a.region all_rooms)) v.2.formed in
+      subst IsMainLoadable (sym (element_at a.region (a.first + v.2.index) mem.M address
+      (omega (arith, v.2.within, leb-true (a.first + a.length) (room_in a.region all_rooms) parts.1)) v.2.space_is
+      v.2.address_is))
       (main_element a.region (a.first + v.2.index) v.2.space_is)
   main_read address (inr (inr v)) = subst (λ a. IsMainLoadable (cell_of mem.M a)) (sym v.2.address_is) tt
 
@@ -148,7 +163,8 @@ module _ (Named : Use → Type 0) where
     local_kept region.Private word is = absurd (let e : mem.L ≡ mem.C = is in cc)
     local_kept region.Shared word is = absurd (let e : mem.L ≡ mem.M = is in cc)
 
-    local_kept_element : (r : Region) (word : ℕ) → mem.L ≡ array_space r → IsLocalStorable site k value (Some (cell_in r word))
+    local_kept_element : (r : Region) (word : ℕ) → mem.L ≡ array_space r
+        → IsLocalStorable site k value (Some (cell_in r word))
     local_kept_element region.Scratch word is = tt
     local_kept_element region.Comm word is = tt
     local_kept_element region.Private word is = absurd (let e : mem.L ≡ mem.M = is in cc)
@@ -158,25 +174,35 @@ module _ (Named : Use → Type 0) where
     no_local (inl is) = cc
     no_local (inr is) = cc
 
-    local_store : (address : ℕ) → IsStoredPlace Named mem.L address → MaySendAt site k value (cell_of mem.L address) → IsLocalStorable site k value (cell_of mem.L address)
+    local_store : (address : ℕ) → IsStoredPlace Named mem.L address → MaySendAt site k value (cell_of mem.L address)
+        → IsLocalStorable site k value (cell_of mem.L address)
     local_store address (inl v) sends =
         let c = v.0 in
-        let parts = and_parts (nat_le (first_of c.region) c.word) (nat_lt c.word (room_in c.region all_rooms)) v.2.formed in
-        subst (IsLocalStorable site k value) (sym (variable_at c.region c.word mem.L address (ltb-true c.word (room_in c.region all_rooms) parts.1) v.2.space_is v.2.address_is)) (local_kept c.region c.word v.2.space_is)
+        let parts = and_parts (nat_le (first_of c.region) c.word) (nat_lt c.word (room_in c.region all_rooms))
+        v.2.formed in
+        subst (IsLocalStorable site k value)
+        (sym (variable_at c.region c.word mem.L address (ltb-true c.word (room_in c.region all_rooms) parts.1)
+        v.2.space_is v.2.address_is)) (local_kept c.region c.word v.2.space_is)
     local_store address (inr (inl v)) sends =
         let a = v.0 in
-        let parts = and_parts (nat_le (first_of a.region) a.first) (nat_le (a.first + a.length) (room_in a.region all_rooms)) v.2.formed in
-        subst (IsLocalStorable site k value) (sym (element_at a.region (a.first + v.2.index) mem.L address (omega (arith, v.2.within, leb-true (a.first + a.length) (room_in a.region all_rooms) parts.1)) v.2.space_is v.2.address_is))
+        let parts = and_parts (nat_le (first_of a.region) a.first) (nat_le (a.first + a.length)
+        (room_in a.region all_rooms)) v.2.formed in
+        subst (IsLocalStorable site k value) (sym (element_at a.region (a.first + v.2.index) mem.L address
+        (omega (arith, v.2.within, leb-true (a.first + a.length) (room_in a.region all_rooms) parts.1)) v.2.space_is
+        v.2.address_is))
         (local_kept_element a.region (a.first + v.2.index) v.2.space_is)
     local_store address (inr (inr (inl v))) sends = absurd (no_local v.space_is)
     local_store address (inr (inr (inr v))) sends =
         let core = v.0 in
         let low : core < 16 = few core v.1 in
-        let at : (0x20000 + 16 * core + v.2.register * 4) % 2 ^ 32 ≡ address = omega (arith, v.2.address_is, low, v.2.within) in
-        let there : cell_of mem.L address ≡ Some (cell.Port core (4 * v.2.register)) = sym (ap (cell_of mem.L) at) ∙ port_found core v.2.register low v.2.within in
+        let at : (0x20000 + 16 * core + v.2.register * 4) % 2 ^ 32 ≡ address =
+        omega (arith, v.2.address_is, low, v.2.within) in
+        let there : cell_of mem.L address ≡ Some (cell.Port core (4 * v.2.register)) =
+        sym (ap (cell_of mem.L) at) ∙ port_found core v.2.register low v.2.within in
         subst (IsLocalStorable site k value) (sym there) (subst (MaySendAt site k value) there sends)
 
-  cached_kept : (r : Region) (word : ℕ) → word < room_in r all_rooms → mem.C ≡ cell_space r → IsMainStorable (Some (cell_in r word))
+  cached_kept : (r : Region) (word : ℕ) → word < room_in r all_rooms → mem.C ≡ cell_space r
+      → IsMainStorable (Some (cell_in r word))
   cached_kept region.Scratch word within is = absurd (let e : mem.C ≡ mem.L = is in cc)
   cached_kept region.Comm word within is = absurd (let e : mem.C ≡ mem.L = is in cc)
   cached_kept region.Private word within is = within
@@ -185,20 +211,25 @@ module _ (Named : Use → Type 0) where
   cached_store : (address : ℕ) → IsStoredPlace Named mem.C address → IsMainStorable (cell_of mem.C address)
   cached_store address (inl v) =
       let c = v.0 in
-      let parts = and_parts (nat_le (first_of c.region) c.word) (nat_lt c.word (room_in c.region all_rooms)) v.2.formed in
+      let parts = and_parts (nat_le (first_of c.region) c.word) (nat_lt c.word (room_in c.region all_rooms))
+      v.2.formed in
       let within = ltb-true c.word (room_in c.region all_rooms) parts.1 in
-      subst IsMainStorable (sym (variable_at c.region c.word mem.C address within v.2.space_is v.2.address_is)) (cached_kept c.region c.word within v.2.space_is)
+      subst IsMainStorable (sym (variable_at c.region c.word mem.C address within v.2.space_is v.2.address_is))
+      (cached_kept c.region c.word within v.2.space_is)
   cached_store address (inr (inl v)) = absurd (no_cached_element v.0.region v.2.space_is)
-  cached_store address (inr (inr (inl v))) = subst (λ a. IsMainStorable (cell_of mem.C a)) (sym v.address_is) (let low : 0 < 49152 = omega arith in low)
+  cached_store address (inr (inr (inl v))) =
+      subst (λ a. IsMainStorable (cell_of mem.C a)) (sym v.address_is) (let low : 0 < 49152 = omega arith in low)
   cached_store address (inr (inr (inr v))) = absurd (let e : mem.C ≡ mem.L = v.2.space_is in cc)
 
-  main_kept : (r : Region) (word : ℕ) → word < room_in r all_rooms → mem.M ≡ cell_space r → IsMainStorable (Some (cell_in r word))
+  main_kept : (r : Region) (word : ℕ) → word < room_in r all_rooms → mem.M ≡ cell_space r
+      → IsMainStorable (Some (cell_in r word))
   main_kept region.Scratch word within is = absurd (let e : mem.M ≡ mem.L = is in cc)
   main_kept region.Comm word within is = absurd (let e : mem.M ≡ mem.L = is in cc)
   main_kept region.Private word within is = within
   main_kept region.Shared word within is = tt
 
-  main_kept_element : (r : Region) (word : ℕ) → word < room_in r all_rooms → mem.M ≡ array_space r → IsMainStorable (Some (cell_in r word))
+  main_kept_element : (r : Region) (word : ℕ) → word < room_in r all_rooms → mem.M ≡ array_space r
+      → IsMainStorable (Some (cell_in r word))
   main_kept_element region.Scratch word within is = absurd (let e : mem.M ≡ mem.L = is in cc)
   main_kept_element region.Comm word within is = absurd (let e : mem.M ≡ mem.L = is in cc)
   main_kept_element region.Private word within is = within
@@ -207,42 +238,60 @@ module _ (Named : Use → Type 0) where
   main_store : (address : ℕ) → IsStoredPlace Named mem.M address → IsMainStorable (cell_of mem.M address)
   main_store address (inl v) =
       let c = v.0 in
-      let parts = and_parts (nat_le (first_of c.region) c.word) (nat_lt c.word (room_in c.region all_rooms)) v.2.formed in
+      let parts = and_parts (nat_le (first_of c.region) c.word) (nat_lt c.word (room_in c.region all_rooms))
+      v.2.formed in
       let within = ltb-true c.word (room_in c.region all_rooms) parts.1 in
-      subst IsMainStorable (sym (variable_at c.region c.word mem.M address within v.2.space_is v.2.address_is)) (main_kept c.region c.word within v.2.space_is)
+      subst IsMainStorable (sym (variable_at c.region c.word mem.M address within v.2.space_is v.2.address_is))
+      (main_kept c.region c.word within v.2.space_is)
   main_store address (inr (inl v)) =
       let a = v.0 in
-      let parts = and_parts (nat_le (first_of a.region) a.first) (nat_le (a.first + a.length) (room_in a.region all_rooms)) v.2.formed in
-      let within : a.first + v.2.index < room_in a.region all_rooms = omega (arith, v.2.within, leb-true (a.first + a.length) (room_in a.region all_rooms) parts.1) in
-      subst IsMainStorable (sym (element_at a.region (a.first + v.2.index) mem.M address within v.2.space_is v.2.address_is)) (main_kept_element a.region (a.first + v.2.index) within v.2.space_is)
-  main_store address (inr (inr (inl v))) = subst (λ a. IsMainStorable (cell_of mem.M a)) (sym v.address_is) (let low : 0 < 49152 = omega arith in low)
+      let parts = and_parts (nat_le (first_of a.region) a.first) (nat_le (a.first + a.length)
+      (room_in a.region all_rooms)) v.2.formed in
+      let within : a.first + v.2.index < room_in a.region all_rooms =
+      omega (arith, v.2.within, leb-true (a.first + a.length) (room_in a.region all_rooms) parts.1) in
+      subst IsMainStorable (sym (element_at a.region (a.first + v.2.index) mem.M address within v.2.space_is
+      v.2.address_is)) (main_kept_element a.region (a.first + v.2.index) within v.2.space_is)
+  main_store address (inr (inr (inl v))) =
+      subst (λ a. IsMainStorable (cell_of mem.M a)) (sym v.address_is) (let low : 0 < 49152 = omega arith in low)
   main_store address (inr (inr (inr v))) = absurd (let e : mem.M ≡ mem.L = v.2.space_is in cc)
 
   -- ---- each effect
 
-  pub sound_ask : (few : (core : ℕ) → Named (sends_to core) → core < 16) (site : Site) (e : Effect) (p : Pointers) (k : Memory) → MayAsk Named e → IsWithinStack e p → MaySend site e k → IsSound site e p k
+  pub sound_ask : (few : (core : ℕ) → Named (sends_to core) → core < 16) (site : Site) (e : Effect) (p : Pointers)
+      (k : Memory) → MayAsk Named e → IsWithinStack e p → MaySend site e k → IsSound site e p k
   sound_ask few site effect.Nothing p k may within sends = tt
   sound_ask few site (effect.Flow flow) p k may within sends = tt
-  sound_ask few site (effect.Load mem.S width rd address) p k may within sends = (ap (λ w. address % width_bytes w) may.0 ∙ may.1, within)
-  sound_ask few site (effect.Load mem.L width rd address) p k may within sends = (may.0, read_aligned Named mem.L address may.1, local_read address may.1)
-  sound_ask few site (effect.Load mem.C width rd address) p k may within sends = (may.0, read_aligned Named mem.C address may.1, cached_read address may.1)
-  sound_ask few site (effect.Load mem.M width rd address) p k may within sends = (may.0, read_aligned Named mem.M address may.1, main_read address may.1)
-  sound_ask few site (effect.Store mem.S width address value) p k may within sends = (ap (λ w. address % store_bytes w) may.0 ∙ may.1, within)
-  sound_ask few site (effect.Store mem.L width address value) p k may within sends = (may.0, stored_aligned Named mem.L address may.1, local_store few site k value address may.1 sends)
-  sound_ask few site (effect.Store mem.C width address value) p k may within sends = (may.0, stored_aligned Named mem.C address may.1, cached_store address may.1)
-  sound_ask few site (effect.Store mem.M width address value) p k may within sends = (may.0, stored_aligned Named mem.M address may.1, main_store address may.1)
+  sound_ask few site (effect.Load mem.S width rd address) p k may within sends =
+      (ap (λ w. address % width_bytes w) may.0 ∙ may.1, within)
+  sound_ask few site (effect.Load mem.L width rd address) p k may within sends =
+      (may.0, read_aligned Named mem.L address may.1, local_read address may.1)
+  sound_ask few site (effect.Load mem.C width rd address) p k may within sends =
+      (may.0, read_aligned Named mem.C address may.1, cached_read address may.1)
+  sound_ask few site (effect.Load mem.M width rd address) p k may within sends =
+      (may.0, read_aligned Named mem.M address may.1, main_read address may.1)
+  sound_ask few site (effect.Store mem.S width address value) p k may within sends =
+      (ap (λ w. address % store_bytes w) may.0 ∙ may.1, within)
+  sound_ask few site (effect.Store mem.L width address value) p k may within sends =
+      (may.0, stored_aligned Named mem.L address may.1, local_store few site k value address may.1 sends)
+  sound_ask few site (effect.Store mem.C width address value) p k may within sends =
+      (may.0, stored_aligned Named mem.C address may.1, cached_store address may.1)
+  sound_ask few site (effect.Store mem.M width address value) p k may within sends =
+      (may.0, stored_aligned Named mem.M address may.1, main_store address may.1)
   sound_ask few site (effect.StackOp func count) p k may within sends = within
 
 -- ---- addresses
 
-cached_by : (e : Effect) (rest : List Effect) → cached_in e ++ cached_addresses rest ≡ cached_addresses (asked_of e ++ rest)
+cached_by : (e : Effect) (rest : List Effect) → cached_in e ++ cached_addresses rest
+    ≡ cached_addresses (asked_of e ++ rest)
 cached_by (effect.Load mem.S width rd address) rest = refl
 cached_by (effect.Load _ width rd address) rest = refl
 cached_by _ rest = refl
 
-addresses_of : (from : Sources) (steps : List Step) (m : Run) → addresses_in from steps m ≡ cached_addresses (asks_in from steps m)
+addresses_of : (from : Sources) (steps : List Step) (m : Run) → addresses_in from steps m
+    ≡ cached_addresses (asks_in from steps m)
 addresses_of from [] m = refl
-addresses_of from (does b ∷ steps) m = ap (λ l. cached_in (effect_of b m.regs) ++ l) (addresses_of from steps (late from b m)) ∙ cached_by (effect_of b m.regs) (asks_in from steps (late from b m))
+addresses_of from (does b ∷ steps) m = ap (λ l. cached_in (effect_of b m.regs) ++ l) (addresses_of from steps
+    (late from b m)) ∙ cached_by (effect_of b m.regs) (asks_in from steps (late from b m))
 addresses_of from (begins ∷ steps) m = addresses_of from steps (begun m)
 
 -- ---- tasks
@@ -251,36 +300,50 @@ addresses_of from (begins ∷ steps) m = addresses_of from steps (begun m)
 constants_dropped : (b : Slots) → is_idle b ≡ true → has_constants b ≡ true
 constants_dropped b nothing = ap has_constants (idle_is b nothing)
 
-constants_paired : (a b : Slots) → can_join a b ≡ true → has_constants (pair a b) ≡ true → (has_constants a ≡ true) × (has_constants b ≡ true)
+constants_paired : (a b : Slots) → can_join a b ≡ true → has_constants (pair a b) ≡ true → (has_constants a ≡ true)
+    × (has_constants b ≡ true)
 constants_paired a b can h =
     let both = and_parts (nat_lt (constant_of a.first.op) (2 ^ 32)) (nat_lt (constant_of b.first.op) (2 ^ 32)) h in
     let two = pairs a b can in
     (alone_fits a both.0 two.first_alone, alone_fits b both.1 two.second_alone)
   where
-    alone_fits : (x : Slots) → nat_lt (constant_of x.first.op) (2 ^ 32) ≡ true → is_none x.second ≡ true → has_constants x ≡ true
+    alone_fits : (x : Slots) → nat_lt (constant_of x.first.op) (2 ^ 32) ≡ true → is_none x.second ≡ true
+        → has_constants x ≡ true
     alone_fits x fits none = so x.second none
       where
-        so : (second : Option Instr) → is_none second ≡ true → (nat_lt (constant_of x.first.op) (2 ^ 32) && second_constant second) ≡ true
+        so : (second : Option Instr) → is_none second ≡ true → (nat_lt (constant_of x.first.op) (2 ^ 32)
+            && second_constant second) ≡ true
         so None none = and_from (nat_lt (constant_of x.first.op) (2 ^ 32)) true fits refl
         so (Some i) none = absurd (cc)
 
-constants_apart : (b : Slots) (i : Instr) → b.second ≡ Some i → has_constants (lone b.first) ≡ true → has_constants (lone i) ≡ true → has_constants b ≡ true
+constants_apart : (b : Slots) (i : Instr) → b.second ≡ Some i → has_constants (lone b.first) ≡ true
+    → has_constants (lone i) ≡ true → has_constants b ≡ true
 constants_apart b i is first second =
-    and_from (nat_lt (constant_of b.first.op) (2 ^ 32)) (second_constant b.second) (and_parts (nat_lt (constant_of b.first.op) (2 ^ 32)) true first).0
+    and_from (nat_lt (constant_of b.first.op) (2 ^ 32)) (second_constant b.second)
+    (and_parts (nat_lt (constant_of b.first.op) (2 ^ 32)) true first).0
     (ap second_constant is ∙ (and_parts (nat_lt (constant_of i.op) (2 ^ 32)) true second).0)
 
 -- what the laws of emit and schedule tell of the code
 module _ (u : PlainUnit) (code : IsCode u) where
-  steady_code : (k : ℕ) → k < length (code_of u).functions → parts_all is_steady (slice_index_or (code_of u).functions k no_part) ≡ true
+  steady_code : (k : ℕ) → k < length (code_of u).functions → parts_all is_steady (slice_index_or (code_of u).functions k
+      no_part) ≡ true
   steady_code k below =
-      let few : k < length u.functions = omega (arith, below, sched.functions_stay (emitted u), codes_length u.functions) in
+      let few : k < length u.functions =
+      omega (arith, below, sched.functions_stay (emitted u), codes_length u.functions) in
       sched.steady_as (emitted u) (code_of u) refl k (emit.steady_as (emitted u) u refl k few)
 
   code_words : HasCode (linked (code_of u))
   code_words = code_is_words (code_of u) code.fits code.bundles
 
   pub link : IsLinkable (code_of u)
-  link = record { formed = code.formed; fits = code.fits; bundles = code.bundles; steady = steady_code; words = code_words; initial = code.initial }
+  link = record {
+    formed = code.formed;
+    fits = code.fits;
+    bundles = code.bundles;
+    steady = steady_code;
+    words = code_words;
+    initial = code.initial;
+  }
 
   words_at : (k : ℕ) → parts_all has_word (slice_index_or (code_of u).functions k no_part) ≡ true
   words_at k = elim (cases_lt k (length (code_of u).functions)) [
@@ -289,7 +352,8 @@ module _ (u : PlainUnit) (code : IsCode u) where
   ]
 
   emitted_words : (k : ℕ) → parts_all has_word (slice_index_or (emitted u).functions k no_part) ≡ true
-  emitted_words k = sched.none_lost has_word sched.word_dropped sched.word_paired sched.word_apart (emitted u) k (words_at k)
+  emitted_words k =
+      sched.none_lost has_word sched.word_dropped sched.word_paired sched.word_apart (emitted u) k (words_at k)
 
   pub counts_of : HasCounts u.functions
   counts_of = counts_are_words u emitted_words
@@ -299,11 +363,14 @@ module _ (u : PlainUnit) (code : IsCode u) where
 
   -- the constants of all bundles are words
   emitted_fits : AllFit (trail (emitted u))
-  emitted_fits = trail_fits (emitted u) (λ k. sched.none_lost has_constants constants_dropped constants_paired constants_apart (emitted u) k (constants_at (code_of u) code.bundles k))
+  emitted_fits = trail_fits (emitted u) (λ k. sched.none_lost has_constants constants_dropped constants_paired
+      constants_apart (emitted u) k (constants_at (code_of u) code.bundles k))
 
-  pub words_there : (memory : Memory) (loads : List ℕ) → Each IsWord loads → AllWords by_stack (trail (emitted u)) (at_begin memory loads (backs_of (code_of u)))
+  pub words_there : (memory : Memory) (loads : List ℕ) → Each IsWord loads
+      → AllWords by_stack (trail (emitted u)) (at_begin memory loads (backs_of (code_of u)))
   words_there memory loads words =
-      all_words (trail (emitted u)) (at_begin memory loads (backs_of (code_of u))) emitted_fits (words_at_begin memory loads (backs_of (code_of u)) words (backs_fit (code_of u) code_words code.fits))
+      all_words (trail (emitted u)) (at_begin memory loads (backs_of (code_of u))) emitted_fits
+      (words_at_begin memory loads (backs_of (code_of u)) words (backs_fit (code_of u) code_words code.fits))
 
 module _ (u : PlainUnit) (formed : is_formed u ≡ true) where
   abbrev Named : Use → Type 0
@@ -320,39 +387,56 @@ module _ (u : PlainUnit) (formed : is_formed u ≡ true) where
     whole = record { fits = record { count = refl; pred_count = refl; zero = refl; always = refl }; pending = refl }
 
     -- what a run asks for, which code asks for that is read at once
-    pub asked_there : asks_in by_stack (trail (code_of u)) begins_at ≡ (run by_stack (trail (emitted u)) begins_at).asked
-    asked_there = sym (asked_is by_stack (trail (code_of u)) begins_at) ∙ ap (λ (t : Run). t.asked) (runs_as (emitted u) (code_of u) refl by_stack begins_at whole)
+    pub asked_there : asks_in by_stack (trail (code_of u)) begins_at
+        ≡ (run by_stack (trail (emitted u)) begins_at).asked
+    asked_there = sym (asked_is by_stack (trail (code_of u)) begins_at) ∙ ap (λ (t : Run). t.asked) (runs_as (emitted u)
+        (code_of u) refl by_stack begins_at whole)
 
     pub asks_there : asks_in by_stack (trail (code_of u)) begins_at ≡ (asking.asks by_stack begins_at whole).news
     asks_there = asked_there ∙ (asking.asks by_stack begins_at whole).is
 
     pub may_there : Each (MayAsk Named) (asks_in by_stack (trail (code_of u)) begins_at)
     may_there =
-        let asks : Asks Named asking.cached begins_at (run by_stack (trail (emitted u)) begins_at) = asking.asks by_stack begins_at whole in
+        let asks : Asks Named asking.cached begins_at (run by_stack (trail (emitted u)) begins_at) =
+        asking.asks by_stack begins_at whole in
         subst (Each (MayAsk Named)) (sym asks_there) (recursion_from_All (MayAsk Named) asks.news asks.may)
 
-pub targets_of : (u : PlainUnit) (place : Place) → IsRunnable u place → (core : ℕ) → Contains (uses_of u) (sends_to core) → (core < 16) × ((core < place.cores) × (core ≡ place.core → ⊥))
+pub targets_of : (u : PlainUnit) (place : Place) → IsRunnable u place → (core : ℕ)
+    → Contains (uses_of u) (sends_to core) → (core < 16) × ((core < place.cores) × (core ≡ place.core → ⊥))
 targets_of u place h core named = let t = h.targets core named in (omega (arith, t.0, h.few), t)
 
 -- transfers are started only as they may be
-pub sends_there : (u : PlainUnit) (place : Place) (h : IsRunnable u place) → IsCode u → (memory : Memory) (loads : List ℕ) → Each IsWord loads
+pub sends_there : (u : PlainUnit) (place : Place) (h : IsRunnable u place) → IsCode u → (memory : Memory)
+    (loads : List ℕ) → Each IsWord loads
     → AllSend (site_of place (linked (code_of u))) by_stack (trail (code_of u)) (begins_at u h.formed memory loads)
 sends_there u place h code memory loads words =
     let m : Run = begins_at u h.formed memory loads in
-    let starts : StartIn (asks_once by_stack (trail (emitted u)) m) memory = starts_in by_stack (trail (emitted u)) m ((asking u h.formed).starts by_stack m (whole u h.formed memory loads) (words_there u code memory loads words)) in
-    all_send (Contains (uses_of u)) (site_of place (linked (code_of u))) (targets_of u place h) by_stack (trail (code_of u)) m (may_there u h.formed memory loads)
-    (subst (λ l. StartIn l memory) (sym (asked_there u h.formed memory loads ∙ asked_once by_stack (trail (emitted u)) m)) starts)
+    let starts : StartIn (asks_once by_stack (trail (emitted u)) m) memory =
+    starts_in by_stack (trail (emitted u)) m ((asking u h.formed).starts by_stack m (whole u h.formed memory loads)
+    (words_there u code memory loads words)) in
+    all_send (Contains (uses_of u)) (site_of place (linked (code_of u))) (targets_of u place h) by_stack
+    (trail (code_of u)) m (may_there u h.formed memory loads)
+    (subst (λ l. StartIn l memory)
+    (sym (asked_there u h.formed memory loads ∙ asked_once by_stack (trail (emitted u)) m)) starts)
 
-pub behaves : (u : PlainUnit) (place : Place) (h : IsRunnable u place) → IsCode u → Behaves (code_of u) place (asking u h.formed).cached
+pub behaves : (u : PlainUnit) (place : Place) (h : IsRunnable u place) → IsCode u
+    → Behaves (code_of u) place (asking u h.formed).cached
 behaves u place h code = record {
   iterations = λ memory loads words.
-      iterations_as (emitted u) (code_of u) refl (emitted_formed u h.formed) by_stack (begins_at u h.formed memory loads) (whole u h.formed memory loads) (task_iterations u by_stack memory loads (backs_of (code_of u)) refl h.formed (counts_of u code));
+      iterations_as (emitted u) (code_of u) refl (emitted_formed u h.formed) by_stack
+      (begins_at u h.formed memory loads) (whole u h.formed memory loads) (task_iterations u by_stack memory loads
+      (backs_of (code_of u)) refl h.formed (counts_of u code));
   sound = λ memory loads words.
-      all_sound (site_of place (linked (code_of u))) (MayAsk (Contains (uses_of u))) (sound_ask (Contains (uses_of u)) (λ core named. (targets_of u place h core named).0) (site_of place (linked (code_of u)))) by_stack (trail (code_of u)) (begins_at u h.formed memory loads)
+      all_sound (site_of place (linked (code_of u))) (MayAsk (Contains (uses_of u))) (sound_ask (Contains (uses_of u))
+      (λ core named. (targets_of u place h core named).0) (site_of place (linked (code_of u)))) by_stack
+      (trail (code_of u)) (begins_at u h.formed memory loads)
       (may_there u h.formed memory loads)
-      (subst (λ l. AreWithinStack l (pointers_of (begins_at u h.formed memory loads))) (sym (asked_there u h.formed memory loads)) (task_stays u by_stack memory loads (backs_of (code_of u)) h.formed h.stack))
+      (subst (λ l. AreWithinStack l (pointers_of (begins_at u h.formed memory loads)))
+      (sym (asked_there u h.formed memory loads)) (task_stays u by_stack memory loads (backs_of (code_of u))
+      h.formed h.stack))
       (sends_there u place h code memory loads words);
   same = λ memory loads words.
-      addresses_of by_stack (trail (code_of u)) (begins_at u h.formed memory loads) ∙ ap cached_addresses (asks_there u h.formed memory loads)
+      addresses_of by_stack (trail (code_of u)) (begins_at u h.formed memory loads)
+      ∙ ap cached_addresses (asks_there u h.formed memory loads)
       ∙ ((asking u h.formed).asks by_stack (begins_at u h.formed memory loads) (whole u h.formed memory loads)).loads;
 }

@@ -26,7 +26,13 @@ pub sender_code : IsCode sender
 unfolding flag_of read_op fetch_op set_op cleared_in seek_op match_op number_op
 sender_code = record {
   formed = refl;
-  fits = record { small = small; within = omega arith; initial = omega arith; input_from = omega arith; input_room = omega arith };
+  fits = record {
+    small = small;
+    within = omega arith;
+    initial = omega arith;
+    input_from = omega arith;
+    input_room = omega arith;
+  };
   bundles = fit;
   initial = tt;
 }
@@ -40,5 +46,6 @@ pub sender_runs : (place : Place) → place.cores ≡ 2 → place.core ≡ 0 →
 sender_runs place two first = record { formed = refl; stack = omega arith; few = omega (arith, two); targets = targets }
   where
     targets : (core : ℕ) → Contains (sends_to 1 ∷ []) (sends_to core) → (core < place.cores) × (core ≡ place.core → ⊥)
-    targets core (zero, low, is) = let one : 1 ≡ core = ap target_of is in (omega (arith, one, two), λ same. omega (arith, one, first, same))
+    targets core (zero, low, is) =
+        let one : 1 ≡ core = ap target_of is in (omega (arith, one, two), λ same. omega (arith, one, first, same))
     targets core (suc k, low, is) = absurd (omega (arith, low))

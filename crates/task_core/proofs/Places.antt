@@ -9,8 +9,10 @@ use Rattle.sp_emit.specs.Expressions.{address_of, cell_space, array_space}
 use Rattle.sp_emit.proofs.Cells.{cell_in, cell_found, element_found}
 
 -- where a variable or an element is, its cell is found
-pub variable_at : (r : Region) (word : ℕ) (space : Mem) (address : ℕ) → word < room_in r all_rooms → space ≡ cell_space r → address ≡ address_of r word → cell_of space address ≡ Some (cell_in r word)
+pub variable_at : (r : Region) (word : ℕ) (space : Mem) (address : ℕ) → word < room_in r all_rooms → space
+    ≡ cell_space r → address ≡ address_of r word → cell_of space address ≡ Some (cell_in r word)
 variable_at r word space address within is at = (λ i. cell_of (is i) (at i)) ∙ cell_found r word within
 
-pub element_at : (r : Region) (word : ℕ) (space : Mem) (address : ℕ) → word < room_in r all_rooms → space ≡ array_space r → address ≡ address_of r word → cell_of space address ≡ Some (cell_in r word)
+pub element_at : (r : Region) (word : ℕ) (space : Mem) (address : ℕ) → word < room_in r all_rooms → space
+    ≡ array_space r → address ≡ address_of r word → cell_of space address ≡ Some (cell_in r word)
 element_at r word space address within is at = (λ i. cell_of (is i) (at i)) ∙ element_found r word within

@@ -59,7 +59,10 @@ op_fits Return h = tt
 op_fits _ h = absurd (true≢false (sym h))
 
 instr_fits : (i : Instr) → is_instr_fit i ≡ true → FitsInstr i
-instr_fits i h = let both = and_parts (nat_lt i.guard.pred 8) (is_op_fit i.op) h in (ltb-true i.guard.pred 8 both.0, op_fits i.op both.1)
+instr_fits i h = let both = and_parts (nat_lt i.guard.pred 8) (is_op_fit i.op) h in (
+  ltb-true i.guard.pred 8 both.0,
+  op_fits i.op both.1,
+)
 
 second_fits : (o : Option Instr) → is_second_fit o ≡ true → IfSome o FitsInstr
 second_fits None h = tt
@@ -71,4 +74,9 @@ all_fit (b ∷ bs) h =
     let both = and_parts (is_fit b) (list_all is_fit bs) h in
     let one = and_parts (is_legal b.first b.second) (is_instr_fit b.first && is_second_fit b.second) both.0 in
     let two = and_parts (is_instr_fit b.first) (is_second_fit b.second) one.1 in
-    All-cons FitsBundle b bs (record { legal = one.0; first = instr_fits b.first two.0; second = second_fits b.second two.1 }) (all_fit bs both.1)
+    All-cons FitsBundle b bs (record {
+      legal = one.0;
+      first = instr_fits b.first two.0;
+      second = second_fits b.second
+          two.1;
+    }) (all_fit bs both.1)

@@ -41,32 +41,40 @@ other_fit (b ∷ bs) h = h.1
 
 -- ---- what a bundle asks for
 
-reserved_word : (st count : ℕ) (words : ℕ → ℕ) → ((a : ℕ) → IsWord (words a)) → (a : ℕ) → IsWord (reserved st count words a)
-reserved_word st count words before a = elim (nat_le (st - count) a && nat_lt a st) as (λ b. IsWord (if b then 0 else words a)) [ true ↦ omega arith | false ↦ before a ]
+reserved_word : (st count : ℕ) (words : ℕ → ℕ) → ((a : ℕ) → IsWord (words a)) → (a : ℕ)
+    → IsWord (reserved st count words a)
+reserved_word st count words before a = elim (nat_le (st - count) a && nat_lt a st) as (λ b. IsWord
+    (if b then 0 else words a)) [ true ↦ omega arith | false ↦ before a ]
 
-effected_words : (e : Effect) (m : Run) → AreWords m → ((space : Mem) (width : StoreWidth) (address value : ℕ) → e ≡ effect.Store space width address value → IsWord value) → AreWords (effected by_stack e m)
+effected_words : (e : Effect) (m : Run) → AreWords m → ((space : Mem) (width : StoreWidth) (address value : ℕ) → e
+    ≡ effect.Store space width address value → IsWord value) → AreWords (effected by_stack e m)
 effected_words effect.Nothing m h stores = h
-effected_words (effect.Flow flow) m h stores = record { regs = h.regs; stack = h.stack; loads = h.loads; backs = h.backs }
+effected_words (effect.Flow flow) m h stores =
+    record { regs = h.regs; stack = h.stack; loads = h.loads; backs = h.backs }
 effected_words (effect.Load mem.S width rd address) m h stores = record {
-  regs = arrived_words rd (picked width address (m.stack (m.st + address / 4))) m.regs h.regs (picked_word width address (m.stack (m.st + address / 4)) (h.stack (m.st + address / 4)));
+  regs = arrived_words rd (picked width address (m.stack (m.st + address / 4))) m.regs h.regs
+      (picked_word width address (m.stack (m.st + address / 4)) (h.stack (m.st + address / 4)));
   stack = h.stack;
   loads = other_words m.loads h.loads;
   backs = h.backs;
 }
 effected_words (effect.Load mem.L width rd address) m h stores = record {
-  regs = arrived_words rd (picked width address (first_load m.loads)) m.regs h.regs (picked_word width address (first_load m.loads) (first_word m.loads h.loads));
+  regs = arrived_words rd (picked width address (first_load m.loads)) m.regs h.regs
+      (picked_word width address (first_load m.loads) (first_word m.loads h.loads));
   stack = h.stack;
   loads = other_words m.loads h.loads;
   backs = h.backs;
 }
 effected_words (effect.Load mem.C width rd address) m h stores = record {
-  regs = arrived_words rd (picked width address (first_load m.loads)) m.regs h.regs (picked_word width address (first_load m.loads) (first_word m.loads h.loads));
+  regs = arrived_words rd (picked width address (first_load m.loads)) m.regs h.regs
+      (picked_word width address (first_load m.loads) (first_word m.loads h.loads));
   stack = h.stack;
   loads = other_words m.loads h.loads;
   backs = h.backs;
 }
 effected_words (effect.Load mem.M width rd address) m h stores = record {
-  regs = arrived_words rd (picked width address (first_load m.loads)) m.regs h.regs (picked_word width address (first_load m.loads) (first_word m.loads h.loads));
+  regs = arrived_words rd (picked width address (first_load m.loads)) m.regs h.regs
+      (picked_word width address (first_load m.loads) (first_word m.loads h.loads));
   stack = h.stack;
   loads = other_words m.loads h.loads;
   backs = h.backs;
@@ -74,23 +82,35 @@ effected_words (effect.Load mem.M width rd address) m h stores = record {
 effected_words (effect.Store mem.S width address value) m h stores = record {
   regs = h.regs;
   stack = put_fits (m.st + address / 4) (merged width address (m.stack (m.st + address / 4)) value) m.stack
-      (merged_word width address (m.stack (m.st + address / 4)) value (h.stack (m.st + address / 4)) (stores mem.S width address value refl)) h.stack;
+      (merged_word width address (m.stack (m.st + address / 4)) value (h.stack (m.st + address / 4))
+      (stores mem.S width address value refl)) h.stack;
   loads = h.loads;
   backs = h.backs;
 }
-effected_words (effect.Store mem.L width address value) m h stores = record { regs = h.regs; stack = h.stack; loads = h.loads; backs = h.backs }
-effected_words (effect.Store mem.C width address value) m h stores = record { regs = h.regs; stack = h.stack; loads = h.loads; backs = h.backs }
-effected_words (effect.Store mem.M width address value) m h stores = record { regs = h.regs; stack = h.stack; loads = h.loads; backs = h.backs }
-effected_words (effect.StackOp Sres count) m h stores = record { regs = h.regs; stack = reserved_word m.st count m.stack h.stack; loads = h.loads; backs = h.backs }
-effected_words (effect.StackOp Sens count) m h stores = record { regs = h.regs; stack = h.stack; loads = h.loads; backs = h.backs }
-effected_words (effect.StackOp Sfree count) m h stores = record { regs = h.regs; stack = h.stack; loads = h.loads; backs = h.backs }
+effected_words (effect.Store mem.L width address value) m h stores =
+    record { regs = h.regs; stack = h.stack; loads = h.loads; backs = h.backs }
+effected_words (effect.Store mem.C width address value) m h stores =
+    record { regs = h.regs; stack = h.stack; loads = h.loads; backs = h.backs }
+effected_words (effect.Store mem.M width address value) m h stores =
+    record { regs = h.regs; stack = h.stack; loads = h.loads; backs = h.backs }
+effected_words (effect.StackOp Sres count) m h stores =
+    record { regs = h.regs; stack = reserved_word m.st count m.stack h.stack; loads = h.loads; backs = h.backs }
+effected_words (effect.StackOp Sens count) m h stores =
+    record { regs = h.regs; stack = h.stack; loads = h.loads; backs = h.backs }
+effected_words (effect.StackOp Sfree count) m h stores =
+    record { regs = h.regs; stack = h.stack; loads = h.loads; backs = h.backs }
 
 -- ---- bundles and trails
 
 late_words : (b : Slots) (m : Run) → ConstantsFit b → AreWords m → AreWords (late by_stack b m)
 late_words b m fits h =
     effected_words (effect_of b m.regs) (record m { regs = after_bundle m.st m.ss b m.regs })
-    (record { regs = after_bundle_words m.st m.ss b m.regs h.regs fits; stack = h.stack; loads = h.loads; backs = h.backs })
+    (record {
+      regs = after_bundle_words m.st m.ss b m.regs h.regs fits;
+      stack = h.stack;
+      loads = h.loads;
+      backs = h.backs;
+    })
     (λ space width address value is. stored_word b m.regs space width address value h.regs is)
 
 once_words : (b : Slots) (m : Run) → ConstantsFit b → AreWords m → AreWords (once by_stack b m)
@@ -101,12 +121,21 @@ once_words b m fits h =
 begun_words : (m : Run) → AreWords m → AreWords (begun m)
 begun_words m h =
     let f : BackFits (first_back m.backs) = first_fits m.backs h.backs in
-    record { regs = with_return_words (first_back m.backs).base (first_back m.backs).offset m.regs h.regs f.base f.offset; stack = h.stack; loads = h.loads; backs = other_fit m.backs h.backs }
+    record {
+      regs = with_return_words (first_back m.backs).base (first_back m.backs).offset m.regs h.regs f.base
+          f.offset;
+      stack = h.stack;
+      loads = h.loads;
+      backs = other_fit m.backs h.backs;
+    }
 
 pub all_words : (steps : List Step) (m : Run) → AllFit steps → AreWords m → AllWords by_stack steps m
 all_words [] m fits h = tt
-all_words (does b ∷ steps) m fits h = (h.regs.general, all_words steps (once by_stack b m) fits.1 (once_words b m fits.0 h))
+all_words (does b ∷ steps) m fits h =
+    (h.regs.general, all_words steps (once by_stack b m) fits.1 (once_words b m fits.0 h))
 all_words (begins ∷ steps) m fits h = all_words steps (begun m) fits (begun_words m h)
 
-pub words_at_begin : (memory : Memory) (loads : List ℕ) (backs : List Back) → Each IsWord loads → Each BackFits backs → AreWords (at_begin memory loads backs)
-words_at_begin memory loads backs words fits = record { regs = at_start_words; stack = λ a. omega arith; loads = words; backs = fits }
+pub words_at_begin : (memory : Memory) (loads : List ℕ) (backs : List Back) → Each IsWord loads → Each BackFits backs
+    → AreWords (at_begin memory loads backs)
+words_at_begin memory loads backs words fits =
+    record { regs = at_start_words; stack = λ a. omega arith; loads = words; backs = fits }

@@ -33,9 +33,12 @@ use Rattle.task_core.proofs.Places.{variable_at, element_at}
 
 abbrev stored_in : Effect → Memory → Memory
 stored_in (effect.Store mem.S width address value) k = k
-stored_in (effect.Store mem.L width address value) k = with_word (cell_of mem.L address) (merged width address (word_at (cell_of mem.L address) k) value) k
-stored_in (effect.Store mem.C width address value) k = with_word (cell_of mem.C address) (merged width address (word_at (cell_of mem.C address) k) value) k
-stored_in (effect.Store mem.M width address value) k = with_word (cell_of mem.M address) (merged width address (word_at (cell_of mem.M address) k) value) k
+stored_in (effect.Store mem.L width address value) k =
+    with_word (cell_of mem.L address) (merged width address (word_at (cell_of mem.L address) k) value) k
+stored_in (effect.Store mem.C width address value) k =
+    with_word (cell_of mem.C address) (merged width address (word_at (cell_of mem.C address) k) value) k
+stored_in (effect.Store mem.M width address value) k =
+    with_word (cell_of mem.M address) (merged width address (word_at (cell_of mem.M address) k) value) k
 stored_in _ k = k
 
 abbrev pub StartIn : List Effect → Memory → Type 0
@@ -57,37 +60,45 @@ asks_once from [] m = []
 asks_once from (does b ∷ steps) m = asked_of (effect_of b m.regs) ++ asks_once from steps (once from b m)
 asks_once from (begins ∷ steps) m = asks_once from steps (begun m)
 
-pub asked_once : (from : Sources) (steps : List Step) (m : Run) → (run from steps m).asked ≡ m.asked ++ asks_once from steps m
+pub asked_once : (from : Sources) (steps : List Step) (m : Run) → (run from steps m).asked ≡ m.asked
+    ++ asks_once from steps m
 asked_once from [] m = sym (append-nil m.asked)
 asked_once from (does b ∷ steps) m =
     asked_once from steps (once from b m)
-    ∙ ap (λ l. l ++ asks_once from steps (once from b m)) (effected_asked from (effect_of b m.regs) (record m { regs = after_bundle m.st m.ss b m.regs }))
+    ∙ ap (λ l. l ++ asks_once from steps (once from b m)) (effected_asked from (effect_of b m.regs)
+    (record m { regs = after_bundle m.st m.ss b m.regs }))
     ∙ append_assoc m.asked (asked_of (effect_of b m.regs)) (asks_once from steps (once from b m))
 asked_once from (begins ∷ steps) m = asked_once from steps (begun m)
 
-first_in : (e : Effect) (k : Memory) (rest : List Effect) → StartsWell e k → StartIn rest (stored_in e k) → StartIn (asked_of e ++ rest) k
+first_in : (e : Effect) (k : Memory) (rest : List Effect) → StartsWell e k → StartIn rest (stored_in e k)
+    → StartIn (asked_of e ++ rest) k
 first_in effect.Nothing k rest one more = more
 first_in (effect.Flow flow) k rest one more = more
 first_in (effect.Load space width rd address) k rest one more = (tt, more)
 first_in (effect.Store space width address value) k rest one more = (one, more)
 first_in (effect.StackOp func count) k rest one more = (tt, more)
 
-pub starts_in : (from : Sources) (steps : List Step) (m : Run) → AllStart from steps m → StartIn (asks_once from steps m) m.memory
+pub starts_in : (from : Sources) (steps : List Step) (m : Run) → AllStart from steps m
+    → StartIn (asks_once from steps m) m.memory
 starts_in from [] m h = tt
 starts_in from (does b ∷ steps) m h =
     first_in (effect_of b m.regs) m.memory (asks_once from steps (once from b m)) h.0
-    (subst (StartIn (asks_once from steps (once from b m))) (effected_memory from (effect_of b m.regs) (record m { regs = after_bundle m.st m.ss b m.regs })) (starts_in from steps (once from b m) h.1))
+    (subst (StartIn (asks_once from steps (once from b m))) (effected_memory from (effect_of b m.regs)
+    (record m { regs = after_bundle m.st m.ss b m.regs })) (starts_in from steps (once from b m) h.1))
 starts_in from (begins ∷ steps) m h = starts_in from steps (begun m) h
 
 -- ---- a trail that is read late
 
-sends_alike : (m : Memory) (core count : ℕ) → may_start (m.source core) (m.target core) count ≡ true → may_send m core count ≡ true
+sends_alike : (m : Memory) (core count : ℕ) → may_start (m.source core) (m.target core) count ≡ true
+    → may_send m core count ≡ true
 sends_alike m core count h =
     let p = and_parts (nat_le 1 count) (nat_le (m.source core + count) 512 && nat_le (m.target core + count) 512) h in
     let q = and_parts (nat_le (m.source core + count) 512) (nat_le (m.target core + count) 512) p.1 in
-    and_from (nat_lt 0 count && nat_le (m.source core + count) 512) (nat_le (m.target core + count) 512) (and_from (nat_lt 0 count) (nat_le (m.source core + count) 512) (lt-ltb 0 count (leb-true 1 count p.0)) q.0) q.1
+    and_from (nat_lt 0 count && nat_le (m.source core + count) 512) (nat_le (m.target core + count) 512)
+    (and_from (nat_lt 0 count) (nat_le (m.source core + count) 512) (lt-ltb 0 count (leb-true 1 count p.0)) q.0) q.1
 
-module _ (Named : Use → Type 0) (site : Site) (others : (core : ℕ) → Named (sends_to core) → (core < 16) × ((core < site.cores) × (core ≡ site.core → ⊥))) where
+module _ (Named : Use → Type 0) (site : Site) (others : (core : ℕ) → Named (sends_to core) → (core < 16)
+    × ((core < site.cores) × (core ≡ site.core → ⊥))) where
   cell_sends : (k : Memory) (value : ℕ) (r : Region) (word : ℕ) → MaySendAt site k value (Some (cell_in r word))
   cell_sends k value region.Scratch word = tt
   cell_sends k value _ word = tt
@@ -96,45 +107,70 @@ module _ (Named : Use → Type 0) (site : Site) (others : (core : ℕ) → Named
   no_local (inl is) = cc
   no_local (inr is) = cc
 
-  store_sends : (k : Memory) (value address : ℕ) → IsStoredPlace Named mem.L address → StartsAt k value (cell_of mem.L address) → MaySendAt site k value (cell_of mem.L address)
+  store_sends : (k : Memory) (value address : ℕ) → IsStoredPlace Named mem.L address
+      → StartsAt k value (cell_of mem.L address) → MaySendAt site k value (cell_of mem.L address)
   store_sends k value address (inl v) well =
       let c = v.0 in
-      let parts = and_parts (nat_le (first_of c.region) c.word) (nat_lt c.word (room_in c.region all_rooms)) v.2.formed in
-      subst (MaySendAt site k value) (sym (variable_at c.region c.word mem.L address (ltb-true c.word (room_in c.region all_rooms) parts.1) v.2.space_is v.2.address_is)) (cell_sends k value c.region c.word)
+      let parts = and_parts (nat_le (first_of c.region) c.word) (nat_lt c.word (room_in c.region all_rooms))
+      v.2.formed in
+      subst (MaySendAt site k value)
+      (sym (variable_at c.region c.word mem.L address (ltb-true c.word (room_in c.region all_rooms) parts.1)
+      v.2.space_is v.2.address_is)) (cell_sends k value c.region c.word)
   store_sends k value address (inr (inl v)) well =
       let a = v.0 in
-      let parts = and_parts (nat_le (first_of a.region) a.first) (nat_le (a.first + a.length) (room_in a.region all_rooms)) v.2.formed in
-      subst (MaySendAt site k value) (sym (element_at a.region (a.first + v.2.index) mem.L address (omega (arith, v.2.within, leb-true (a.first + a.length) (room_in a.region all_rooms) parts.1)) v.2.space_is v.2.address_is))
+      let parts = and_parts (nat_le (first_of a.region) a.first) (nat_le (a.first + a.length)
+      (room_in a.region all_rooms)) v.2.formed in
+      subst (MaySendAt site k value) (sym (element_at a.region (a.first + v.2.index) mem.L address
+      (omega (arith, v.2.within, leb-true (a.first + a.length) (room_in a.region all_rooms) parts.1)) v.2.space_is
+      v.2.address_is))
       (cell_sends k value a.region (a.first + v.2.index))
   store_sends k value address (inr (inr (inl v))) well = absurd (no_local v.space_is)
   store_sends k value address (inr (inr (inr v))) well =
       let core = v.0 in
       let register = v.2.register in
       let t = others core v.1 in
-      let at : (0x20000 + 16 * core + register * 4) % 2 ^ 32 ≡ address = omega (arith, v.2.address_is, t.0, v.2.within) in
-      let there : cell_of mem.L address ≡ Some (cell.Port core (4 * register)) = sym (ap (cell_of mem.L) at) ∙ port_found core register t.0 v.2.within in
+      let at : (0x20000 + 16 * core + register * 4) % 2 ^ 32 ≡ address =
+      omega (arith, v.2.address_is, t.0, v.2.within) in
+      let there : cell_of mem.L address ≡ Some (cell.Port core (4 * register)) =
+      sym (ap (cell_of mem.L) at) ∙ port_found core register t.0 v.2.within in
       let starts : StartsAt k value (Some (cell.Port core (4 * register))) = subst (StartsAt k value) there well in
-      let other : is_other site core ≡ true = and_from (nat_lt core site.cores) (not (core == site.core)) (lt-ltb core site.cores t.1.0) (ap not (ne_eqb core site.core t.1.1)) in
-      subst (MaySendAt site k value) (sym there)
-      (t.0, (other, (ne_eqb (4 * register) 12 (λ e. omega (arith, e, v.2.within)), λ is. sends_alike k core value (starts (eqb-true (4 * register) 8 is)))))
+      let other : is_other site core ≡ true = and_from (nat_lt core site.cores) (not (core == site.core))
+      (lt-ltb core site.cores t.1.0) (ap not (ne_eqb core site.core t.1.1)) in
+      subst (MaySendAt site k value) (sym there) (
+        t.0,
+        (
+          other,
+          (
+            ne_eqb (4 * register) 12 (λ e. omega (arith, e, v.2.within)),
+            λ is. sends_alike k core value
+                (starts (eqb-true (4 * register) 8 is)),
+          ),
+        ),
+      )
 
   record First (e : Effect) (k : Memory) (rest : List Effect) : Type 0 where
     sends : MaySend site e k
     may : Each (MayAsk Named) rest
     more : StartIn rest (stored_in e k)
 
-  first_sends : (e : Effect) (k : Memory) (rest : List Effect) → Each (MayAsk Named) (asked_of e ++ rest) → StartIn (asked_of e ++ rest) k → First e k rest
+  first_sends : (e : Effect) (k : Memory) (rest : List Effect) → Each (MayAsk Named) (asked_of e ++ rest)
+      → StartIn (asked_of e ++ rest) k → First e k rest
   first_sends effect.Nothing k rest may starts = record { sends = tt; may = may; more = starts }
   first_sends (effect.Flow flow) k rest may starts = record { sends = tt; may = may; more = starts }
-  first_sends (effect.Store mem.L width address value) k rest may starts = record { sends = store_sends k value address may.0.1 starts.0; may = may.1; more = starts.1 }
+  first_sends (effect.Store mem.L width address value) k rest may starts =
+      record { sends = store_sends k value address may.0.1 starts.0; may = may.1; more = starts.1 }
   first_sends _ k rest may starts = record { sends = tt; may = may.1; more = starts.1 }
 
-  pub all_send : (from : Sources) (steps : List Step) (m : Run) → Each (MayAsk Named) (asks_in from steps m) → StartIn (asks_in from steps m) m.memory → AllSend site from steps m
+  pub all_send : (from : Sources) (steps : List Step) (m : Run) → Each (MayAsk Named) (asks_in from steps m)
+      → StartIn (asks_in from steps m) m.memory → AllSend site from steps m
   all_send from [] m may starts = tt
   all_send from (does b ∷ steps) m may starts =
-      let f : First (effect_of b m.regs) m.memory (asks_in from steps (late from b m)) = first_sends (effect_of b m.regs) m.memory (asks_in from steps (late from b m)) may starts in (
+      let f : First (effect_of b m.regs) m.memory (asks_in from steps (late from b m)) =
+      first_sends (effect_of b m.regs) m.memory (asks_in from steps (late from b m)) may starts in (
         f.sends,
         all_send from steps (late from b m) f.may
-            (subst (StartIn (asks_in from steps (late from b m))) (sym (effected_memory from (effect_of b m.regs) (record m { regs = after_bundle m.st m.ss b m.regs }))) f.more),
+            (subst (StartIn (asks_in from steps (late from b m)))
+            (sym (effected_memory from (effect_of b m.regs) (record m { regs = after_bundle m.st m.ss b m.regs })))
+            f.more),
       )
   all_send from (begins ∷ steps) m may starts = all_send from steps (begun m) may starts

@@ -38,7 +38,12 @@ use Rattle.task_machine.specs.Reported.{HasTimes}
 still_running : (limit : ℕ) (x : Plain) → is_running x ≡ true → state_at limit x ≡ Running
 still_running limit x = by x.status (has_ended x)
   where
-    by : (s : Status) (ended : Bool) → elim s as (λ _. Bool) [ status.Idle ↦ false | status.Running ↦ not ended | status.Trapped trap at ↦ false ] ≡ true
+    by : (s : Status) (ended : Bool) → elim s as (λ _. Bool) [
+      | status.Idle ↦ false
+      | status.Running ↦
+          not ended
+      | status.Trapped trap at ↦ false
+    ] ≡ true
         → elim s as (λ _. CoreState) [
           | status.Idle ↦ Idle
           | status.Running ↦ elim (ended && nat_le x.free limit) as (λ _. CoreState) [
@@ -73,18 +78,23 @@ not_yet limit x runs late =
     by false here is = refl
 
 -- a core that does not run stays
-same_later : (n core : ℕ) (x : Core) (values : List ℕ) (t d : ℕ) → is_running (apart turn n core x values t).core.plain ≡ false
+same_later : (n core : ℕ) (x : Core) (values : List ℕ) (t d : ℕ) → is_running (apart turn n core x values t).core.plain
+    ≡ false
     → IsSameTask (apart turn n core x values t).core (apart turn n core x values (t + d)).core
 same_later n core x values t d still =
-    let here : core_in (before n core x values t) ≡ (apart turn n core x values t).core = ap (λ (a : Alone Core). a.core) (run_before n core x values t) in
-    let there : core_in (before n core x values (t + d)) ≡ (apart turn n core x values (t + d)).core = ap (λ (a : Alone Core). a.core) (run_before n core x values (t + d)) in
+    let here : core_in (before n core x values t) ≡ (apart turn n core x values t).core =
+    ap (λ (a : Alone Core). a.core) (run_before n core x values t) in
+    let there : core_in (before n core x values (t + d)) ≡ (apart turn n core x values (t + d)).core =
+    ap (λ (a : Alone Core). a.core) (run_before n core x values (t + d)) in
     subst (IsSameTask (apart turn n core x values t).core) there
     (subst (λ (c : Core). IsSameTask c (core_in (before n core x values (t + d)))) here
     (stays_still n core x values t d (ap (λ (c : Core). is_running c.plain) here ∙ still)))
 
 -- ---- a compiled task
 
-module _ (u : PlainUnit) (place : Place) (h : IsRunnable u place) (code : IsCode u) (slots : IsSlotted (site_of place (linked (code_of u)))) (among : place.core < place.cores) (input values : List ℕ) (given : AreGiven input values) where
+module _ (u : PlainUnit) (place : Place) (h : IsRunnable u place) (code : IsCode u)
+    (slots : IsSlotted (site_of place (linked (code_of u)))) (among : place.core < place.cores) (input values : List ℕ)
+    (given : AreGiven input values) where
   abbrev s : PlainShape
   s = code_of u
 
@@ -109,7 +119,8 @@ module _ (u : PlainUnit) (place : Place) (h : IsRunnable u place) (code : IsCode
   within : (times_of u place).end ≤ whole
   within = end_within place s addresses linkable (behaves u place h code) slots among
 
-  running_at : (cycles : ℕ) → cycles < (times_of u place).end → state_at cycles (apart_at place (linked s) input values cycles).core.plain ≡ Running
+  running_at : (cycles : ℕ) → cycles < (times_of u place).end → state_at cycles (apart_at place (linked s) input values
+      cycles).core.plain ≡ Running
   running_at cycles early = by (is_running x) refl
     where
       x : Plain
@@ -120,26 +131,33 @@ module _ (u : PlainUnit) (place : Place) (h : IsRunnable u place) (code : IsCode
       by false is =
           let far : cycles + (whole - cycles) ≡ whole = omega (arith, early, within) in
           let enough : whole ≤ whole = omega arith in
-          let later : IsSameTask (apart_at place (linked s) input values cycles).core (apart_at place (linked s) input values whole).core =
-          subst (λ t. IsSameTask (apart_at place (linked s) input values cycles).core (apart_at place (linked s) input values t).core) far
+          let later : IsSameTask (apart_at place (linked s) input values cycles).core
+          (apart_at place (linked s) input values whole).core =
+          subst (λ t. IsSameTask (apart_at place (linked s) input values cycles).core
+          (apart_at place (linked s) input values t).core) far
           (same_later place.cores place.core (begun site input) values cycles (whole - cycles) is) in
           let runs : x.status ≡ status.Running =
-          sym (ap (λ (c : Core). c.plain.status) later) ∙ ap (λ (c : Core). c.plain.status) (stands_so place s addresses linkable (behaves u place h code) slots among input values given whole enough) ∙ followed.status in
+          sym (ap (λ (c : Core). c.plain.status) later) ∙ ap (λ (c : Core). c.plain.status) (stands_so place s addresses
+          linkable (behaves u place h code) slots among input values given whole enough) ∙ followed.status in
           let free : x.free ≡ (times_of u place).end =
-          sym (ap (λ (c : Core). c.plain.free) later) ∙ end_from place s addresses linkable (behaves u place h code) slots among input values given whole within in
+          sym (ap (λ (c : Core). c.plain.free) later) ∙ end_from place s addresses linkable (behaves u place h code)
+          slots among input values given whole within in
           not_yet cycles x runs (omega (arith, free, early))
 
   pub times_at : (cycles : ℕ) → HasTimes u place cycles (apart_at place (linked s) input values cycles).core
   times_at cycles =
       let general : List ℕ = (core_in last).plain.regs.general in
-      let end : last.cycle ≡ (times_of u place).end = ended_cycle place s addresses linkable (behaves u place h code) slots among input values given in
+      let end : last.cycle ≡ (times_of u place).end =
+      ended_cycle place s addresses linkable (behaves u place h code) slots among input values given in
       record {
-        accesses = accesses_at place s addresses linkable (behaves u place h code) slots among input values given cycles;
+        accesses = accesses_at place s addresses linkable (behaves u place h code) slots among input
+            values given cycles;
         done = λ enough. (
           slice_index general 1,
           (
             slice_index general 2,
-            ended_is_done place.cores place.core site input values (bundles_in (trail s)) cycles slots followed.status followed.still (omega (arith, enough, end))
+            ended_is_done place.cores place.core site input values (bundles_in (trail s)) cycles slots followed.status
+                followed.still (omega (arith, enough, end))
                 ∙ ap (λ k. Done (slice_index general 1) (slice_index general 2) (k - place.start)) end,
           ),
         );

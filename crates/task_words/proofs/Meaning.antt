@@ -34,31 +34,64 @@ use Rattle.task_core.proofs.Places.{element_at, variable_at}
 
 pub initial_alike : (initial : List ℕ) (word : ℕ) → overlaid 4 initial zeros word ≡ tree.first_private initial word
 initial_alike initial word = elim (cases_lt word 4) [
-  | inl low ↦ ap (λ b. elim (b && nat_lt word (4 + length initial)) as (λ _. ℕ) [ true ↦ slice_index initial (word - 4) | false ↦ 0 ]) (lt-leb 4 word low)
+  | inl low ↦ ap (λ b. elim (b && nat_lt word (4 + length initial)) as (λ _. ℕ) [
+    | true ↦ slice_index initial
+        (word - 4)
+    | false ↦ 0
+  ]) (lt-leb 4 word low)
       ∙ sym (ap (λ b. if b then slice_index initial (word - 4) else 0) (lt-leb 4 word low))
-  | inr high ↦ ap (λ b. elim (b && nat_lt word (4 + length initial)) as (λ _. ℕ) [ true ↦ slice_index initial (word - 4) | false ↦ 0 ]) (le-leb 4 word high)
+  | inr high ↦ ap (λ b. elim (b && nat_lt word (4 + length initial)) as (λ _. ℕ) [
+    | true ↦ slice_index initial
+        (word - 4)
+    | false ↦ 0
+  ]) (le-leb 4 word high)
       ∙ elim (cases_lt word (4 + length initial)) [
-        | inl within ↦ ap (λ b. elim b as (λ _. ℕ) [ true ↦ slice_index initial (word - 4) | false ↦ 0 ]) (lt-ltb word (4 + length initial) within)
-        | inr past ↦ ap (λ b. elim b as (λ _. ℕ) [ true ↦ slice_index initial (word - 4) | false ↦ 0 ]) (le-ltb word (4 + length initial) past) ∙ sym (get_or-eq_default initial 0 (omega (arith, past)))
+        | inl within ↦ ap (λ b. elim b as (λ _. ℕ) [ true ↦ slice_index initial (word - 4) | false ↦ 0 ])
+            (lt-ltb word (4 + length initial) within)
+        | inr past ↦ ap (λ b. elim b as (λ _. ℕ) [ true ↦ slice_index initial (word - 4) | false ↦ 0 ]) (le-ltb word
+            (4 + length initial) past) ∙ sym (get_or-eq_default initial 0 (omega (arith, past)))
       ] ∙ sym (ap (λ b. if b then slice_index initial (word - 4) else 0) (le-leb 4 word high))
 ]
 
-pub laid_alike : (at room : ℕ) (input : List ℕ) (f g : ℕ → ℕ) (word : ℕ) → f word ≡ g word → overlaid at (take room input) f word ≡ tree.laid at room input g word
+pub laid_alike : (at room : ℕ) (input : List ℕ) (f g : ℕ → ℕ) (word : ℕ) → f word ≡ g word
+    → overlaid at (take room input) f word ≡ tree.laid at room input g word
 laid_alike at room input f g word same = elim (cases_lt word at) [
-  | inl low ↦ ap (λ b. elim (b && nat_lt word (at + length (take room input))) as (λ _. ℕ) [ true ↦ slice_index (take room input) (word - at) | false ↦ f word ]) (lt-leb at word low) ∙ same
-      ∙ sym (ap (λ b. if b && (nat_lt (word - at) room && nat_lt (word - at) (length input)) then slice_index input (word - at) else g word) (lt-leb at word low))
-  | inr high ↦ ap (λ b. elim (b && nat_lt word (at + length (take room input))) as (λ _. ℕ) [ true ↦ slice_index (take room input) (word - at) | false ↦ f word ]) (le-leb at word high)
+  | inl low ↦ ap (λ b. elim (b && nat_lt word (at + length (take room input))) as (λ _. ℕ) [
+    | true ↦ slice_index
+        (take room input) (word - at)
+    | false ↦ f word
+  ]) (lt-leb at word low) ∙ same
+      ∙ sym (ap (λ b. if b && (nat_lt (word - at) room && nat_lt (word - at) (length input)) then slice_index input
+      (word - at) else g word) (lt-leb at word low))
+  | inr high ↦ ap (λ b. elim (b && nat_lt word (at + length (take room input))) as (λ _. ℕ) [
+    | true ↦ slice_index
+        (take room input) (word - at)
+    | false ↦ f word
+  ]) (le-leb at word high)
       ∙ elim (cases_lt (word - at) room) [
         | inl inside ↦ elim (cases_lt (word - at) (length input)) [
-          | inl there ↦ ap (λ b. elim b as (λ _. ℕ) [ true ↦ slice_index (take room input) (word - at) | false ↦ f word ]) (lt-ltb word (at + length (take room input)) (omega (arith, long, inside, there, high)))
+          | inl there ↦ ap (λ b. elim b as (λ _. ℕ) [
+            | true ↦ slice_index (take room input) (word - at)
+            | false ↦
+                f word
+          ]) (lt-ltb word (at + length (take room input)) (omega (arith, long, inside, there, high)))
               ∙ get_or-take room input (word - at) 0 inside
-              ∙ sym (λ i. if lt-ltb (word - at) room inside i && lt-ltb (word - at) (length input) there i then slice_index input (word - at) else g word)
-          | inr past ↦ ap (λ b. elim b as (λ _. ℕ) [ true ↦ slice_index (take room input) (word - at) | false ↦ f word ]) (le-ltb word (at + length (take room input)) (omega (arith, long, past, high))) ∙ same
-              ∙ sym (λ i. if lt-ltb (word - at) room inside i && le-ltb (word - at) (length input) past i then slice_index input (word - at) else g word)
+              ∙ sym (λ i. if lt-ltb (word - at) room inside i && lt-ltb (word - at) (length input) there i then
+              slice_index input (word - at) else g word)
+          | inr past ↦ ap (λ b. elim b as (λ _. ℕ) [
+            | true ↦ slice_index (take room input) (word - at)
+            | false ↦
+                f word
+          ]) (le-ltb word (at + length (take room input)) (omega (arith, long, past, high))) ∙ same
+              ∙ sym (λ i. if lt-ltb (word - at) room inside i && le-ltb (word - at) (length input) past i then
+              slice_index input (word - at) else g word)
         ]
-        | inr past ↦ ap (λ b. elim b as (λ _. ℕ) [ true ↦ slice_index (take room input) (word - at) | false ↦ f word ]) (le-ltb word (at + length (take room input)) (omega (arith, long, past, high))) ∙ same
-            ∙ sym (λ i. if le-ltb (word - at) room past i && nat_lt (word - at) (length input) then slice_index input (word - at) else g word)
-      ] ∙ sym (ap (λ b. if b && (nat_lt (word - at) room && nat_lt (word - at) (length input)) then slice_index input (word - at) else g word) (le-leb at word high))
+        | inr past ↦ ap (λ b. elim b as (λ _. ℕ) [ true ↦ slice_index (take room input) (word - at) | false ↦ f word ])
+            (le-ltb word (at + length (take room input)) (omega (arith, long, past, high))) ∙ same
+            ∙ sym (λ i. if le-ltb (word - at) room past i && nat_lt (word - at) (length input) then slice_index input
+            (word - at) else g word)
+      ] ∙ sym (ap (λ b. if b && (nat_lt (word - at) room && nat_lt (word - at) (length input)) then slice_index input
+      (word - at) else g word) (le-leb at word high))
 ]
   where
     long : length (take room input) ≡ min room (length input)
@@ -79,7 +112,8 @@ module _ (u : PlainUnit) (apart_uses : are_apart (uses_of u) ≡ true) where
   no_cached_element region.Private is = let e : mem.C ≡ mem.M = is in cc
   no_cached_element region.Shared is = let e : mem.C ≡ mem.M = is in cc
 
-  low_variable : (r : Region) (word address : ℕ) → mem.C ≡ cell_space r → word < room_in r all_rooms → address ≡ address_of r word → address / 4 < 49152
+  low_variable : (r : Region) (word address : ℕ) → mem.C ≡ cell_space r → word < room_in r all_rooms → address
+      ≡ address_of r word → address / 4 < 49152
   low_variable region.Scratch word address is within at = absurd (let e : mem.C ≡ mem.L = is in cc)
   low_variable region.Comm word address is within at = absurd (let e : mem.C ≡ mem.L = is in cc)
   low_variable region.Private word address is within at = omega (arith, within, at)
@@ -88,16 +122,20 @@ module _ (u : PlainUnit) (apart_uses : are_apart (uses_of u) ≡ true) where
   pub cached_own : AreOwn Cached
   cached_own address (inl v) =
       let c = v.0 in
-      let parts = and_parts (nat_le (first_of c.region) c.word) (nat_lt c.word (room_in c.region all_rooms)) v.2.formed in
-      low_variable c.region c.word address v.2.space_is (ltb-true c.word (room_in c.region all_rooms) parts.1) v.2.address_is
+      let parts = and_parts (nat_le (first_of c.region) c.word) (nat_lt c.word (room_in c.region all_rooms))
+      v.2.formed in
+      low_variable c.region c.word address v.2.space_is (ltb-true c.word (room_in c.region all_rooms) parts.1)
+      v.2.address_is
   cached_own address (inr (inl v)) = absurd (no_cached_element v.0.region v.2.space_is)
   cached_own address (inr (inr v)) = absurd (no_cached_element v.0.region v.2.space_is)
 
   cached_stored_low : (address : ℕ) → IsStoredPlace Named mem.C address → address / 4 < 49152
   cached_stored_low address (inl v) =
       let c = v.0 in
-      let parts = and_parts (nat_le (first_of c.region) c.word) (nat_lt c.word (room_in c.region all_rooms)) v.2.formed in
-      low_variable c.region c.word address v.2.space_is (ltb-true c.word (room_in c.region all_rooms) parts.1) v.2.address_is
+      let parts = and_parts (nat_le (first_of c.region) c.word) (nat_lt c.word (room_in c.region all_rooms))
+      v.2.formed in
+      low_variable c.region c.word address v.2.space_is (ltb-true c.word (room_in c.region all_rooms) parts.1)
+      v.2.address_is
   cached_stored_low address (inr (inl v)) = absurd (no_cached_element v.0.region v.2.space_is)
   cached_stored_low address (inr (inr (inl v))) = omega (arith, v.address_is)
   cached_stored_low address (inr (inr (inr v))) = absurd (let e : mem.C ≡ mem.L = v.2.space_is in cc)
@@ -109,39 +147,55 @@ module _ (u : PlainUnit) (apart_uses : are_apart (uses_of u) ≡ true) where
   main_below : (address : ℕ) → IsReadPlace Named mem.M address → IsBelow (cell_of mem.M address)
   main_below address (inl v) =
       let c = v.0 in
-      let parts = and_parts (nat_le (first_of c.region) c.word) (nat_lt c.word (room_in c.region all_rooms)) v.2.formed in
+      let parts = and_parts (nat_le (first_of c.region) c.word) (nat_lt c.word (room_in c.region all_rooms))
+      v.2.formed in
       let within = ltb-true c.word (room_in c.region all_rooms) parts.1 in
-      subst IsBelow (sym (variable_at c.region c.word mem.M address within v.2.space_is v.2.address_is)) (below_cell c.region c.word within)
+      subst IsBelow (sym (variable_at c.region c.word mem.M address within v.2.space_is v.2.address_is))
+      (below_cell c.region c.word within)
   main_below address (inr (inl v)) =
       let a = v.0 in
-      let parts = and_parts (nat_le (first_of a.region) a.first) (nat_le (a.first + a.length) (room_in a.region all_rooms)) v.2.formed in
-      let within : a.first + v.2.index < room_in a.region all_rooms = omega (arith, v.2.within, leb-true (a.first + a.length) (room_in a.region all_rooms) parts.1) in
-      subst IsBelow (sym (element_at a.region (a.first + v.2.index) mem.M address within v.2.space_is v.2.address_is)) (below_cell a.region (a.first + v.2.index) within)
-  main_below address (inr (inr v)) = subst (λ a. IsBelow (cell_of mem.M a)) (sym v.2.address_is) (let low : 0 < 49152 = omega arith in low)
+      let parts = and_parts (nat_le (first_of a.region) a.first) (nat_le (a.first + a.length)
+      (room_in a.region all_rooms)) v.2.formed in
+      let within : a.first + v.2.index < room_in a.region all_rooms =
+      omega (arith, v.2.within, leb-true (a.first + a.length) (room_in a.region all_rooms) parts.1) in
+      subst IsBelow (sym (element_at a.region (a.first + v.2.index) mem.M address within v.2.space_is v.2.address_is))
+      (below_cell a.region (a.first + v.2.index) within)
+  main_below address (inr (inr v)) =
+      subst (λ a. IsBelow (cell_of mem.M a)) (sym v.2.address_is) (let low : 0 < 49152 = omega arith in low)
 
   -- what is stored past the data cache is never loaded by it
   other_word : (address other : ℕ) → IsStoredPlace Named mem.M address → Cached other → other / 4 ≡ address / 4 → ⊥
   other_word address other stored cached same =
-      let is : other ≡ address = omega (arith, same, read_aligned Named mem.C other cached, stored_aligned Named mem.M address stored) in
-      cached_apart (uses_of u) load.Word 0 store.Word 0 address apart_uses (refl, subst (IsReadPlace Named mem.C) is cached) (refl, stored)
+      let is : other ≡ address =
+      omega (arith, same, read_aligned Named mem.C other cached, stored_aligned Named mem.M address stored) in
+      cached_apart (uses_of u) load.Word 0 store.Word 0 address apart_uses
+      (refl, subst (IsReadPlace Named mem.C) is cached) (refl, stored)
 
-  uncached_cell : (r : Region) (word address : ℕ) → address ≡ address_of r word → IsStoredPlace Named mem.M address → IsUncached Cached (Some (cell_in r word))
-  uncached_cell region.Private word address at stored = λ other cached same. other_word address other stored cached (omega (arith, at, same))
+  uncached_cell : (r : Region) (word address : ℕ) → address ≡ address_of r word → IsStoredPlace Named mem.M address
+      → IsUncached Cached (Some (cell_in r word))
+  uncached_cell region.Private word address at stored =
+      λ other cached same. other_word address other stored cached (omega (arith, at, same))
   uncached_cell _ word address at stored = tt
 
   main_uncached : (address : ℕ) → IsStoredPlace Named mem.M address → IsUncached Cached (cell_of mem.M address)
   main_uncached address (inl v) =
       let c = v.0 in
-      let parts = and_parts (nat_le (first_of c.region) c.word) (nat_lt c.word (room_in c.region all_rooms)) v.2.formed in
+      let parts = and_parts (nat_le (first_of c.region) c.word) (nat_lt c.word (room_in c.region all_rooms))
+      v.2.formed in
       let within = ltb-true c.word (room_in c.region all_rooms) parts.1 in
-      subst (IsUncached Cached) (sym (variable_at c.region c.word mem.M address within v.2.space_is v.2.address_is)) (uncached_cell c.region c.word address v.2.address_is (inl v))
+      subst (IsUncached Cached) (sym (variable_at c.region c.word mem.M address within v.2.space_is v.2.address_is))
+      (uncached_cell c.region c.word address v.2.address_is (inl v))
   main_uncached address (inr (inl v)) =
       let a = v.0 in
-      let parts = and_parts (nat_le (first_of a.region) a.first) (nat_le (a.first + a.length) (room_in a.region all_rooms)) v.2.formed in
-      let within : a.first + v.2.index < room_in a.region all_rooms = omega (arith, v.2.within, leb-true (a.first + a.length) (room_in a.region all_rooms) parts.1) in
-      subst (IsUncached Cached) (sym (element_at a.region (a.first + v.2.index) mem.M address within v.2.space_is v.2.address_is)) (uncached_cell a.region (a.first + v.2.index) address v.2.address_is (inr (inl v)))
+      let parts = and_parts (nat_le (first_of a.region) a.first) (nat_le (a.first + a.length)
+      (room_in a.region all_rooms)) v.2.formed in
+      let within : a.first + v.2.index < room_in a.region all_rooms =
+      omega (arith, v.2.within, leb-true (a.first + a.length) (room_in a.region all_rooms) parts.1) in
+      subst (IsUncached Cached) (sym (element_at a.region (a.first + v.2.index) mem.M address within v.2.space_is
+      v.2.address_is)) (uncached_cell a.region (a.first + v.2.index) address v.2.address_is (inr (inl v)))
   main_uncached address (inr (inr (inl v))) =
-      subst (λ a. IsUncached Cached (cell_of mem.M a)) (sym v.address_is) (λ other cached same. other_word address other (inr (inr (inl v))) cached (omega (arith, same, v.address_is)))
+      subst (λ a. IsUncached Cached (cell_of mem.M a)) (sym v.address_is) (λ other cached same. other_word address other
+      (inr (inr (inl v))) cached (omega (arith, same, v.address_is)))
   main_uncached address (inr (inr (inr v))) = absurd (let e : mem.M ≡ mem.L = v.2.space_is in cc)
 
   pub apart_ask : (e : Effect) → MayAsk Named e → KeepsApart Cached e
@@ -152,5 +206,6 @@ module _ (u : PlainUnit) (apart_uses : are_apart (uses_of u) ≡ true) where
   apart_ask _ may = tt
 
   -- each bundle of a trail
-  pub all_apart : (from : Sources) (steps : List Step) (m : Run) → Each (MayAsk Named) (asks_in from steps m) → AllApart Cached from steps m
+  pub all_apart : (from : Sources) (steps : List Step) (m : Run) → Each (MayAsk Named) (asks_in from steps m)
+      → AllApart Cached from steps m
   all_apart = all_pass (MayAsk Named) (KeepsApart Cached) apart_ask tt (λ kind. tt)

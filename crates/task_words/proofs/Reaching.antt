@@ -35,13 +35,15 @@ module _ (Named : Use → Type 0) (few : (core : ℕ) → Named (sends_to core) 
   abbrev To : ℕ → Type 0
   To = MaySendTo Named
 
-  cell_read : (r : Region) (word : ℕ) → word < room_in r all_rooms → ReadsIn Named r → MayLoadCell Load Store To core (Some (cell_in r word))
+  cell_read : (r : Region) (word : ℕ) → word < room_in r all_rooms → ReadsIn Named r
+      → MayLoadCell Load Store To core (Some (cell_in r word))
   cell_read region.Scratch word within reads = tt
   cell_read region.Comm word within reads = inr (word, (within, (refl, reads)))
   cell_read region.Private word within reads = tt
   cell_read region.Shared word within reads = inl (within, reads)
 
-  cell_stored : (r : Region) (word : ℕ) → word < room_in r all_rooms → WritesIn Named r → MayStoreCell Load Store To core (Some (cell_in r word))
+  cell_stored : (r : Region) (word : ℕ) → word < room_in r all_rooms → WritesIn Named r
+      → MayStoreCell Load Store To core (Some (cell_in r word))
   cell_stored region.Scratch word within writes = tt
   cell_stored region.Comm word within writes = inr (word, (within, (refl, writes)))
   cell_stored region.Private word within writes = tt
@@ -52,41 +54,61 @@ module _ (Named : Use → Type 0) (few : (core : ℕ) → Named (sends_to core) 
   nothing_read region.Scratch = tt
   nothing_read _ = tt
 
-  read_place : (space : Mem) (address : ℕ) → IsReadPlace Named space address → MayLoadCell Load Store To core (cell_of space address)
+  read_place : (space : Mem) (address : ℕ) → IsReadPlace Named space address
+      → MayLoadCell Load Store To core (cell_of space address)
   read_place space address (inl v) =
       let c = v.0 in
-      let parts = and_parts (nat_le (first_of c.region) c.word) (nat_lt c.word (room_in c.region all_rooms)) v.2.formed in
+      let parts = and_parts (nat_le (first_of c.region) c.word) (nat_lt c.word (room_in c.region all_rooms))
+      v.2.formed in
       let within = ltb-true c.word (room_in c.region all_rooms) parts.1 in
-      subst (MayLoadCell Load Store To core) (sym (variable_at c.region c.word space address within v.2.space_is v.2.address_is)) (cell_read c.region c.word within (inl (c, (v.1, refl))))
+      subst (MayLoadCell Load Store To core)
+      (sym (variable_at c.region c.word space address within v.2.space_is v.2.address_is))
+      (cell_read c.region c.word within (inl (c, (v.1, refl))))
   read_place space address (inr (inl v)) =
       let a = v.0 in
-      let parts = and_parts (nat_le (first_of a.region) a.first) (nat_le (a.first + a.length) (room_in a.region all_rooms)) v.2.formed in
-      let within : a.first + v.2.index < room_in a.region all_rooms = omega (arith, v.2.within, leb-true (a.first + a.length) (room_in a.region all_rooms) parts.1) in
-      subst (MayLoadCell Load Store To core) (sym (element_at a.region (a.first + v.2.index) space address within v.2.space_is v.2.address_is)) (cell_read a.region (a.first + v.2.index) within (inr (a, (v.1, refl))))
+      let parts = and_parts (nat_le (first_of a.region) a.first) (nat_le (a.first + a.length)
+      (room_in a.region all_rooms)) v.2.formed in
+      let within : a.first + v.2.index < room_in a.region all_rooms =
+      omega (arith, v.2.within, leb-true (a.first + a.length) (room_in a.region all_rooms) parts.1) in
+      subst (MayLoadCell Load Store To core)
+      (sym (element_at a.region (a.first + v.2.index) space address within v.2.space_is v.2.address_is))
+      (cell_read a.region (a.first + v.2.index) within (inr (a, (v.1, refl))))
   read_place space address (inr (inr v)) =
-      subst (MayLoadCell Load Store To core) (λ i. cell_of (sym v.2.space_is i) (sym v.2.address_is i)) (nothing_read v.0.region)
+      subst (MayLoadCell Load Store To core) (λ i. cell_of (sym v.2.space_is i) (sym v.2.address_is i))
+      (nothing_read v.0.region)
 
   spare_stored : (space : Mem) → (space ≡ mem.C) ⊎ (space ≡ mem.M) → MayStoreCell Load Store To core (cell_of space 0)
   spare_stored space (inl is) = subst (λ s. MayStoreCell Load Store To core (cell_of s 0)) (sym is) tt
   spare_stored space (inr is) = subst (λ s. MayStoreCell Load Store To core (cell_of s 0)) (sym is) tt
 
-  stored_place : (space : Mem) (address : ℕ) → IsStoredPlace Named space address → MayStoreCell Load Store To core (cell_of space address)
+  stored_place : (space : Mem) (address : ℕ) → IsStoredPlace Named space address
+      → MayStoreCell Load Store To core (cell_of space address)
   stored_place space address (inl v) =
       let c = v.0 in
-      let parts = and_parts (nat_le (first_of c.region) c.word) (nat_lt c.word (room_in c.region all_rooms)) v.2.formed in
+      let parts = and_parts (nat_le (first_of c.region) c.word) (nat_lt c.word (room_in c.region all_rooms))
+      v.2.formed in
       let within = ltb-true c.word (room_in c.region all_rooms) parts.1 in
-      subst (MayStoreCell Load Store To core) (sym (variable_at c.region c.word space address within v.2.space_is v.2.address_is)) (cell_stored c.region c.word within (inl (c, (v.1, refl))))
+      subst (MayStoreCell Load Store To core)
+      (sym (variable_at c.region c.word space address within v.2.space_is v.2.address_is))
+      (cell_stored c.region c.word within (inl (c, (v.1, refl))))
   stored_place space address (inr (inl v)) =
       let a = v.0 in
-      let parts = and_parts (nat_le (first_of a.region) a.first) (nat_le (a.first + a.length) (room_in a.region all_rooms)) v.2.formed in
-      let within : a.first + v.2.index < room_in a.region all_rooms = omega (arith, v.2.within, leb-true (a.first + a.length) (room_in a.region all_rooms) parts.1) in
-      subst (MayStoreCell Load Store To core) (sym (element_at a.region (a.first + v.2.index) space address within v.2.space_is v.2.address_is)) (cell_stored a.region (a.first + v.2.index) within (inr (a, (v.1, refl))))
-  stored_place space address (inr (inr (inl v))) = subst (λ a. MayStoreCell Load Store To core (cell_of space a)) (sym v.address_is) (spare_stored space v.space_is)
+      let parts = and_parts (nat_le (first_of a.region) a.first) (nat_le (a.first + a.length)
+      (room_in a.region all_rooms)) v.2.formed in
+      let within : a.first + v.2.index < room_in a.region all_rooms =
+      omega (arith, v.2.within, leb-true (a.first + a.length) (room_in a.region all_rooms) parts.1) in
+      subst (MayStoreCell Load Store To core)
+      (sym (element_at a.region (a.first + v.2.index) space address within v.2.space_is v.2.address_is))
+      (cell_stored a.region (a.first + v.2.index) within (inr (a, (v.1, refl))))
+  stored_place space address (inr (inr (inl v))) =
+      subst (λ a. MayStoreCell Load Store To core (cell_of space a)) (sym v.address_is) (spare_stored space v.space_is)
   stored_place space address (inr (inr (inr v))) =
       let low : v.0 < 16 = few v.0 v.1 in
       let register = v.2.register in
-      let at : (0x20000 + 16 * v.0 + register * 4) % 2 ^ 32 ≡ address = omega (arith, v.2.address_is, low, v.2.within) in
-      let there : cell_of mem.L address ≡ Some (cell.Port v.0 (4 * register)) = sym (ap (cell_of mem.L) at) ∙ port_found v.0 register low v.2.within in
+      let at : (0x20000 + 16 * v.0 + register * 4) % 2 ^ 32 ≡ address =
+      omega (arith, v.2.address_is, low, v.2.within) in
+      let there : cell_of mem.L address ≡ Some (cell.Port v.0 (4 * register)) =
+      sym (ap (cell_of mem.L) at) ∙ port_found v.0 register low v.2.within in
       subst (MayStoreCell Load Store To core) (sym (ap (λ s. cell_of s address) v.2.space_is ∙ there)) v.1
 
   reach_ask : (e : Effect) → MayAsk Named e → MayReach Load Store To core e
@@ -98,5 +120,6 @@ module _ (Named : Use → Type 0) (few : (core : ℕ) → Named (sends_to core) 
   reach_ask (effect.Store mem.M width address value) may = stored_place mem.M address may.1
   reach_ask _ may = tt
 
-  pub all_reach : (from : Sources) (steps : List Step) (m : Run) → Each (MayAsk Named) (asks_in from steps m) → AllReach Load Store To core from steps m
+  pub all_reach : (from : Sources) (steps : List Step) (m : Run) → Each (MayAsk Named) (asks_in from steps m)
+      → AllReach Load Store To core from steps m
   all_reach = all_pass (MayAsk Named) (MayReach Load Store To core) reach_ask tt (λ kind. tt)

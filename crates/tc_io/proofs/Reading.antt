@@ -27,7 +27,8 @@ gave_all None b p g h = tt
 gave_all (Some x) None p g h = absurd g
 gave_all (Some x) (Some y) p g h = grind (arith, append-nil)
 
-pub gave_long : (limit : ℕ) (a b : Option (List ℕ)) (p : List ℕ) → Gave a b p → limit < length p → IfSome a (λ bytes. limit < length bytes)
+pub gave_long : (limit : ℕ) (a b : Option (List ℕ)) (p : List ℕ) → Gave a b p → limit < length p
+    → IfSome a (λ bytes. limit < length bytes)
 gave_long limit None b p g l = tt
 gave_long limit (Some x) None p g l = absurd g
 gave_long limit (Some x) (Some y) p g l = grind (arith, length-append)

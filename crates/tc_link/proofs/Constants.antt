@@ -20,7 +20,8 @@ fitting_word _ fits = refl
 all_words : (bs : List Slots) → All FitsBundle bs → list_all has_word bs ≡ true
 all_words [] fits = refl
 all_words (b ∷ bs) fits =
-    and_from (has_word b) (list_all has_word bs) (fitting_word b.first.op (fits 0 b (omega arith)).first.1) (all_words bs (λ k d l. fits (suc k) d (omega (arith, l))))
+    and_from (has_word b) (list_all has_word bs) (fitting_word b.first.op (fits 0 b (omega arith)).first.1)
+    (all_words bs (λ k d l. fits (suc k) d (omega (arith, l))))
 
 -- ---- targets
 
@@ -41,7 +42,8 @@ call_word start b = so b.first.op
 turned_words : (words : ℕ) (bs : List Slots) → list_all has_word (turned words bs) ≡ list_all has_word bs
 turned_words words [] = refl
 turned_words words (b ∷ bs) =
-    ap (λ x. x && list_all has_word (turned (words + bundle_words b) bs)) (branch_word words b) ∙ ap (λ x. has_word b && x) (turned_words (words + bundle_words b) bs)
+    ap (λ x. x && list_all has_word (turned (words + bundle_words b) bs)) (branch_word words b)
+    ∙ ap (λ x. has_word b && x) (turned_words (words + bundle_words b) bs)
 
 called_words : (start : ℕ) (bs : List Slots) → list_all has_word (called start bs) ≡ list_all has_word bs
 called_words start [] = refl
@@ -60,7 +62,8 @@ mutual
   part_words_alike start (calls_to k tail) = called_words (start k) tail
   part_words_alike start (leaves tail) = refl
 
-  parts_words_alike : (start : ℕ → ℕ) (ps : PlainParts) → list_all has_word (flat_parts start ps) ≡ parts_all has_word ps
+  parts_words_alike : (start : ℕ → ℕ) (ps : PlainParts) → list_all has_word (flat_parts start ps)
+      ≡ parts_all has_word ps
   parts_words_alike start no_part = refl
   parts_words_alike start (part p rest) =
       list_all-append has_word (flat_part start p) (flat_parts start rest)

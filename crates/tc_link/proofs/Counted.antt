@@ -19,7 +19,8 @@ use Rattle.tc_link.specs.Placed.{codes}
 
 -- ---- the code of bundles
 
-two_or_one : (first : ℕ) (op : Op) (second : Option Instr) → length (words first (second_word op second)) ≡ (if is_long op || is_some second then 2 else 1)
+two_or_one : (first : ℕ) (op : Op) (second : Option Instr) → length (words first (second_word op second))
+    ≡ (if is_long op || is_some second then 2 else 1)
 two_or_one first (AluLong func rd ra constant) None = refl
 two_or_one first (AluLong func rd ra constant) (Some i) = refl
 two_or_one first _ None = refl
@@ -65,13 +66,23 @@ mutual
   pub flat_part_words : (start : ℕ → ℕ) (p : PlainPart) → bundles_words (flat_part start p) ≡ part_words p
   flat_part_words start (straight bs) = refl
   flat_part_words start (repeats count body tail) =
-      omega (arith, words-append (flat_parts start body) (turned (parts_words body) tail), flat_words start body, turned_words (parts_words body) tail)
+      omega (
+        arith,
+        words-append (flat_parts start body) (turned (parts_words body) tail),
+        flat_words start body,
+        turned_words (parts_words body) tail,
+      )
   flat_part_words start (calls_to k tail) = called_words (start k) tail
   flat_part_words start (leaves tail) = refl
 
   pub flat_words : (start : ℕ → ℕ) (ps : PlainParts) → bundles_words (flat_parts start ps) ≡ parts_words ps
   flat_words start no_part = refl
-  flat_words start (part p rest) = omega (arith, words-append (flat_part start p) (flat_parts start rest), flat_part_words start p, flat_words start rest)
+  flat_words start (part p rest) = omega (
+    arith,
+    words-append (flat_part start p) (flat_parts start rest),
+    flat_part_words start p,
+    flat_words start rest,
+  )
 
 -- ---- loops
 
@@ -80,25 +91,41 @@ pub repeat_words : (p : Part) (count : ℕ) (body : List Part) (tail : List Slot
 repeat_words p count body tail is = ap part_words (repeat_said p count body tail is)
 
 -- the body has no more words than the part
-pub body_small : (p : Part) (count : ℕ) (body inside : List Part) (tail : List Slots) (most : ℕ) → p ≡ Repeat count body tail → inside ≡ body → part_words (plain_part p) ≤ most
+pub body_small : (p : Part) (count : ℕ) (body inside : List Part) (tail : List Slots) (most : ℕ) → p
+    ≡ Repeat count body tail → inside ≡ body → part_words (plain_part p) ≤ most
     → parts_words (parts_of inside) ≤ most
-body_small p count body inside tail most is same small = omega (arith, small, repeat_words p count body tail is, ap (λ ps. parts_words (parts_of ps)) same)
+body_small p count body inside tail most is same small =
+    omega (arith, small, repeat_words p count body tail is, ap (λ ps. parts_words (parts_of ps)) same)
 
 -- as many words more as the body has
-pub body_length : (start : ℕ → ℕ) (ps : PlainParts) (before behind : List ℕ) → behind ≡ before ++ codes (flat_parts start ps)
+pub body_length : (start : ℕ → ℕ) (ps : PlainParts) (before behind : List ℕ) → behind ≡ before
+    ++ codes (flat_parts start ps)
     → length behind ≡ length before + parts_words ps
 body_length start ps before behind is =
-    omega (arith, ap length is, length-append before (codes (flat_parts start ps)), codes_words (flat_parts start ps), flat_words start ps)
+    omega (
+      arith,
+      ap length is,
+      length-append before (codes (flat_parts start ps)),
+      codes_words (flat_parts start ps),
+      flat_words start ps,
+    )
 
 -- the bundles of a loop: those of the body, and those of the tail, whose branch counts the words that the body added
-pub iteration_bundles : (start : ℕ → ℕ) (p : Part) (count : ℕ) (body inside : List Part) (tail iteration : List Slots) (before behind : List ℕ) (words : ℕ) → p ≡ Repeat count body tail
-    → inside ≡ body → iteration ≡ tail → behind ≡ before ++ codes (flat_parts start (parts_of inside)) → words ≡ length behind - length before
+pub iteration_bundles : (start : ℕ → ℕ) (p : Part) (count : ℕ) (body inside : List Part) (tail iteration : List Slots)
+    (before behind : List ℕ) (words : ℕ) → p ≡ Repeat count body tail
+    → inside ≡ body → iteration ≡ tail → behind ≡ before ++ codes (flat_parts start (parts_of inside)) → words
+    ≡ length behind - length before
     → flat_parts start (parts_of inside) ++ turned words iteration ≡ flat_part start (plain_part p)
 iteration_bundles start p count body inside tail iteration before behind words is same_body same_tail added more =
-    let counted : words ≡ parts_words (parts_of inside) = omega (arith, more, body_length start (parts_of inside) before behind added) in
-    ap (λ n. flat_parts start (parts_of inside) ++ turned n iteration) counted ∙ ap (λ ps. flat_part start (repeats count (parts_of ps) iteration)) same_body
-    ∙ ap (λ bs. flat_part start (repeats count (parts_of body) bs)) same_tail ∙ ap (flat_part start) (sym (repeat_said p count body tail is))
+    let counted : words ≡ parts_words (parts_of inside) =
+    omega (arith, more, body_length start (parts_of inside) before behind added) in
+    ap (λ n. flat_parts start (parts_of inside) ++ turned n iteration) counted
+    ∙ ap (λ ps. flat_part start (repeats count (parts_of ps) iteration)) same_body
+    ∙ ap (λ bs. flat_part start (repeats count (parts_of body) bs)) same_tail
+    ∙ ap (flat_part start) (sym (repeat_said p count body tail is))
 
-pub added_behind : (before behind : List ℕ) (us vs bs : List Slots) → behind ≡ before ++ codes us → us ++ vs ≡ bs → behind ++ codes vs ≡ before ++ codes bs
-added_behind before behind us vs bs added is =
-    ap (λ ws. ws ++ codes vs) added ∙ append_assoc before (codes us) (codes vs) ∙ ap (λ ws. before ++ ws) (sym (flat_map-append code us vs)) ∙ ap (λ xs. before ++ codes xs) is
+pub added_after : (before behind : List ℕ) (us vs bs : List Slots) → behind ≡ before ++ codes us → us ++ vs ≡ bs
+    → behind ++ codes vs ≡ before ++ codes bs
+added_after before behind us vs bs added is =
+    ap (λ ws. ws ++ codes vs) added ∙ append_assoc before (codes us) (codes vs)
+    ∙ ap (λ ws. before ++ ws) (sym (flat_map-append code us vs)) ∙ ap (λ xs. before ++ codes xs) is

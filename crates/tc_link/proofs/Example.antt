@@ -20,7 +20,13 @@ each_small (suc zero) within = omega arith
 each_small (suc (suc k)) within = absurd (omega (arith, within))
 
 pub second_run_fits : FitsImage second_run
-second_run_fits = record { small = each_small; within = omega arith; initial = omega arith; input_from = omega arith; input_room = omega arith }
+second_run_fits = record {
+  small = each_small;
+  within = omega arith;
+  initial = omega arith;
+  input_from = omega arith;
+  input_room = omega arith;
+}
 
 -- ---- a walk
 
@@ -37,8 +43,15 @@ one_fit (suc (suc k)) within = absurd (omega (arith, within))
 one_iteration : ShapeIterations (run_late by_words) one_call (task_of one_call)
 one_iteration = search rules
 
-pub one_followed : Follows (linked one_call) by_words (trail one_call) (dues_of one_call (back_of (task_of one_call))) (walk_from 1 (task_of one_call))
+pub one_followed : Follows (linked one_call) by_words (trail one_call) (dues_of one_call (back_of (task_of one_call)))
+    (walk_from 1 (task_of one_call))
 one_followed =
     shape_followed one_call by_words (task_of one_call) refl
-    (record { small = one_small; within = omega arith; initial = omega arith; input_from = omega arith; input_room = omega arith }) one_fit
+    (record {
+      small = one_small;
+      within = omega arith;
+      initial = omega arith;
+      input_from = omega arith;
+      input_room = omega arith;
+    }) one_fit
     (record { count = refl; pred_count = refl; zero = refl; always = refl }) refl one_iteration

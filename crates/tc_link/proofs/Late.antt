@@ -34,7 +34,8 @@ pub calm_rest : (b : Slots) (bs : List Slots) → are_calm (b ∷ bs) ≡ true �
 calm_rest b bs calm = (and_parts (not (is_flow b.first.op)) (are_calm bs) calm).1
 
 -- what is asked for is no flow
-asks_none : (offset : ℕ) (regs : Registers) (on : Bool) (op : Op) → is_flow op ≡ false → asked_flow offset (if on then asked regs op else effect.Nothing) ≡ None
+asks_none : (offset : ℕ) (regs : Registers) (on : Bool) (op : Op) → is_flow op ≡ false
+    → asked_flow offset (if on then asked regs op else effect.Nothing) ≡ None
 asks_none offset regs false op calm = refl
 asks_none offset regs true (Branch by) calm = absurd (true≢false calm)
 asks_none offset regs true (Call target) calm = absurd (true≢false calm)
@@ -42,16 +43,19 @@ asks_none offset regs true (BranchFill target) calm = absurd (true≢false calm)
 asks_none offset regs true Return calm = absurd (true≢false calm)
 asks_none offset regs true _ calm = refl
 
-pub calm_asks : (offset : ℕ) (b : Slots) (regs : Registers) → is_flow b.first.op ≡ false → asked_flow offset (effect_of b regs) ≡ None
+pub calm_asks : (offset : ℕ) (b : Slots) (regs : Registers) → is_flow b.first.op ≡ false
+    → asked_flow offset (effect_of b regs) ≡ None
 calm_asks offset b regs calm = asks_none offset regs (holds regs b.first.guard) b.first.op calm
 
 -- ---- what is asked for
 
-stored_backs : (space : Mem) (width : StoreWidth) (address value : ℕ) (m : Run) → (stored space width address value m).backs ≡ m.backs
+stored_backs : (space : Mem) (width : StoreWidth) (address value : ℕ) (m : Run)
+    → (stored space width address value m).backs ≡ m.backs
 stored_backs mem.S width address value m = refl
 stored_backs _ width address value m = refl
 
-stored_ways : (space : Mem) (width : StoreWidth) (address value : ℕ) (m : Run) → (stored space width address value m).ways ≡ m.ways
+stored_ways : (space : Mem) (width : StoreWidth) (address value : ℕ) (m : Run)
+    → (stored space width address value m).ways ≡ m.ways
 stored_ways mem.S width address value m = refl
 stored_ways _ width address value m = refl
 
@@ -70,7 +74,8 @@ effected_backs from (effect.Store space width address value) m = stored_backs sp
 effected_backs from (effect.StackOp func count) m = stacked_backs func count m
 effected_backs from _ m = refl
 
-effected_ways : (from : Sources) (offset : ℕ) (e : Effect) (m : Run) → asked_flow offset e ≡ None → (effected from e m).ways ≡ m.ways
+effected_ways : (from : Sources) (offset : ℕ) (e : Effect) (m : Run) → asked_flow offset e ≡ None
+    → (effected from e m).ways ≡ m.ways
 effected_ways from offset effect.Nothing m calm = refl
 effected_ways from offset (effect.Load space width rd address) m calm = refl
 effected_ways from offset (effect.Store space width address value) m calm = stored_ways space width address value m
@@ -89,10 +94,13 @@ pub done_backs : (from : Sources) (bs : List Slots) (m : Run) → (run_late from
 done_backs from [] m = refl
 done_backs from (b ∷ bs) m = done_backs from bs (late from b m) ∙ late_backs from b m
 
-pub done_fits : (from : Sources) (bs : List Slots) (m : Run) → FitsRegisters m.regs → FitsRegisters (run_late from (all_done bs) m).regs
+pub done_fits : (from : Sources) (bs : List Slots) (m : Run) → FitsRegisters m.regs
+    → FitsRegisters (run_late from (all_done bs) m).regs
 done_fits from [] m fits = fits
 done_fits from (b ∷ bs) m fits = done_fits from bs (late from b m) (late_fits from b m fits)
 
-pub calm_ways : (from : Sources) (bs : List Slots) (m : Run) → are_calm bs ≡ true → (run_late from (all_done bs) m).ways ≡ m.ways
+pub calm_ways : (from : Sources) (bs : List Slots) (m : Run) → are_calm bs ≡ true → (run_late from (all_done bs) m).ways
+    ≡ m.ways
 calm_ways from [] m calm = refl
-calm_ways from (b ∷ bs) m calm = calm_ways from bs (late from b m) (calm_rest b bs calm) ∙ late_ways from b m (calm_first b bs calm)
+calm_ways from (b ∷ bs) m calm =
+    calm_ways from bs (late from b m) (calm_rest b bs calm) ∙ late_ways from b m (calm_first b bs calm)

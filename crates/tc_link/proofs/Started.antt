@@ -14,7 +14,8 @@ others_have entry (suc n) k within ne =
     elim (cases_eq n k) [
       | inl is ↦
           let here : Contains (n ∷ []) k = (0, omega arith, is) in
-          Contains-append_right (others entry n) last k (subst (λ b. Contains (if b then [] else n ∷ []) k) (sym (ne_eqb n entry (λ e. ne (sym is ∙ e)))) here)
+          Contains-append_right (others entry n) last k (subst (λ b. Contains (if b then [] else n ∷ []) k)
+          (sym (ne_eqb n entry (λ e. ne (sym is ∙ e)))) here)
       | inr other ↦ Contains-append_left (others entry n) last k (others_have entry n k (omega (arith, other)) ne)
     ]
 
@@ -25,6 +26,7 @@ pub started : (s : PlainShape) (k : ℕ) → k < length s.functions → Contains
 started s k within = elim (cases_eq k s.entry) [
   | inl is ↦ (0, omega arith, ap (start_of s) (sym is))
   | inr ne ↦
-      let c = map_has (start_of s) (others s.entry (length s.functions)) k (others_have s.entry (length s.functions) k within ne) in
+      let c = map_has (start_of s) (others s.entry (length s.functions)) k
+      (others_have s.entry (length s.functions) k within ne) in
       (suc c.0, omega (arith, c.1), c.2)
 ]

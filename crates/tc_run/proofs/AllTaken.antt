@@ -34,18 +34,21 @@ machine_low m = all_low turn (length m.cores) (core_among m.cores) m.limit
 
 module _ (m : Machine) (b : BoardFace) (of : IsBoardOf m b) where
   -- the passes of all cores are back
-  pub all_past : (back : List Record) → ((k : ℕ) → k < length m.cores → Any (IsPast m k) back) → AllPast b back (2 * m.limit * length m.cores)
+  pub all_past : (back : List Record) → ((k : ℕ) → k < length m.cores → Any (IsPast m k) back)
+      → AllPast b back (2 * m.limit * length m.cores)
   all_past back past = record {
     below = subst (Each (λ (o : Operation). o.stamp < 2 * m.limit * length m.cores)) (sym of.course) (machine_low m);
     past = λ core among. past core (subst (λ n. core < n) of.cores among);
   }
 
   pub all_words : IsOfWords m → (answer : List ℕ) → length answer ≡ b.words
-      → ((w : ℕ) → w < b.words → slice_index answer w ≡ stored_last w b.course 0) → (w : ℕ) → slice_index answer w ≡ (at_limit m).words w
+      → ((w : ℕ) → w < b.words → slice_index answer w ≡ stored_last w b.course 0) → (w : ℕ) → slice_index answer w
+      ≡ (at_limit m).words w
   all_words fits answer len within w = elim (cases_lt w b.words) [
     | inl below ↦ within w below ∙ ap (λ l. stored_last w l 0) of.course ∙ sym (machine_word m w)
     | inr past ↦
         past_all answer w (subst (λ n. n ≤ w) (sym len) past)
-        ∙ sym (stored_last-others w (all_operations m) 0 (left_alone (board_words m) w (all_operations m) (subst (λ n. n ≤ w) of.words past) (operations_keep m fits)))
+        ∙ sym (stored_last-others w (all_operations m) 0 (left_alone (board_words m) w (all_operations m)
+        (subst (λ n. n ≤ w) of.words past) (operations_keep m fits)))
         ∙ sym (machine_word m w)
   ]

@@ -32,27 +32,32 @@ there ls k below = elim (slice_get_cases ls k).1 [
 pub site_cores : (l : LoadedCore) → (first_core l).plain.site.cores ≡ l.place.cores
 site_cores l = by l.image
   where
-    by : (image : Option Parts) → (first_core (record { place = l.place; image = image; input = l.input })).plain.site.cores ≡ l.place.cores
+    by : (image : Option Parts)
+        → (first_core (record { place = l.place; image = image; input = l.input })).plain.site.cores ≡ l.place.cores
     by None = refl
     by (Some image) = refl
 
 pub site_core : (l : LoadedCore) → (first_core l).plain.site.core ≡ l.place.core
 site_core l = by l.image
   where
-    by : (image : Option Parts) → (first_core (record { place = l.place; image = image; input = l.input })).plain.site.core ≡ l.place.core
+    by : (image : Option Parts)
+        → (first_core (record { place = l.place; image = image; input = l.input })).plain.site.core ≡ l.place.core
     by None = refl
     by (Some image) = refl
 
 -- the machine's core is the run apart on its own loads
 made_apart : (m : Machine) (k : ℕ) → k < length m.cores
-    → (apart turn (length m.cores) k (core_among m.cores k) (loads (operations_of m k)) m.limit).core ≡ (at_limit m).cores k
+    → (apart turn (length m.cores) k (core_among m.cores k) (loads (operations_of m k)) m.limit).core
+    ≡ (at_limit m).cores k
 unfolding machine
 made_apart m k below =
-    ap (λ values. (apart turn (length m.cores) k (core_among m.cores k) values m.limit).core) (sym (append-nil (loads (operations_of m k))))
+    ap (λ values. (apart turn (length m.cores) k (core_among m.cores k) values m.limit).core)
+    (sym (append-nil (loads (operations_of m k))))
     ∙ ap (λ (a : Alone Core). a.core) (core_is_apart turn (length m.cores) (core_among m.cores) m.limit k below [])
 
 -- a core that was loaded without a task is as it began
-idle_at_end : (m : Machine) (k : ℕ) (site : Site) → k < length m.cores → core_among m.cores k ≡ idle site → (at_limit m).cores k ≡ idle site
+idle_at_end : (m : Machine) (k : ℕ) (site : Site) → k < length m.cores → core_among m.cores k ≡ idle site
+    → (at_limit m).cores k ≡ idle site
 idle_at_end m k site below is =
     sym (made_apart m k below)
     ∙ ap (λ x. (apart turn (length m.cores) k x (loads (operations_of m k)) m.limit).core) is
@@ -76,15 +81,19 @@ module _ (m : Machine) (k : ℕ) (c : Cpu) (h : IsFinalCore m k c) where
   core_at_end =
       let l = here.0 in
       let at = placed m.cores k l h.platform here.1 in
-      let n_is : (core_among m.cores k).plain.site.cores ≡ length m.cores = ap (λ (x : Core). x.plain.site.cores) (among_is m.cores k l here.1) ∙ site_cores l ∙ at.0 in
-      let k_is : (core_among m.cores k).plain.site.core ≡ k = ap (λ (x : Core). x.plain.site.core) (among_is m.cores k l here.1) ∙ site_core l ∙ at.1 in
-      ap (λ n. (apart turn n (core_among m.cores k).plain.site.core (core_among m.cores k) (loads (operations_of m k)) m.limit).core) n_is
+      let n_is : (core_among m.cores k).plain.site.cores ≡ length m.cores =
+      ap (λ (x : Core). x.plain.site.cores) (among_is m.cores k l here.1) ∙ site_cores l ∙ at.0 in
+      let k_is : (core_among m.cores k).plain.site.core ≡ k =
+      ap (λ (x : Core). x.plain.site.core) (among_is m.cores k l here.1) ∙ site_core l ∙ at.1 in
+      ap (λ n. (apart turn n (core_among m.cores k).plain.site.core (core_among m.cores k) (loads (operations_of m k))
+      m.limit).core) n_is
       ∙ ap (λ j. (apart turn (length m.cores) j (core_among m.cores k) (loads (operations_of m k)) m.limit).core) k_is
       ∙ made_apart m k h.among
 
   -- what a function of the core tells at its own limit, it tells of the machine's
   pub reported_at_end : {A : Type 0} (tell : ℕ → Core → A) (reported : A)
-      → (IsThrough c → (x : Core) (made : List Operation) → StandsFor c x made → reported ≡ tell (limit_of c) (apart_from x (loads made) (limit_of c)).core)
+      → (IsThrough c → (x : Core) (made : List Operation) → StandsFor c x made → reported
+      ≡ tell (limit_of c) (apart_from x (loads made) (limit_of c)).core)
       → reported ≡ tell m.limit ((at_limit m).cores k)
   reported_at_end tell reported tells =
       tells h.through (core_among m.cores k) (operations_of m k) h.stands
@@ -92,14 +101,17 @@ module _ (m : Machine) (k : ℕ) (c : Cpu) (h : IsFinalCore m k c) where
       ∙ ap (tell m.limit) core_at_end
 
   -- as many transactions as it keeps are as many as are told: without a task there are none
-  pub kept_at_end : take (room_of c) ((at_limit m).cores k).seen.accesses ≡ take m.trace ((at_limit m).cores k).seen.accesses
-  kept_at_end = by here.0.image refl (subst (λ o. IfSome o (λ l. IfSome l.image (λ image. room_of c ≡ m.trace))) here.1 h.room)
+  pub kept_at_end : take (room_of c) ((at_limit m).cores k).seen.accesses
+      ≡ take m.trace ((at_limit m).cores k).seen.accesses
+  kept_at_end =
+      by here.0.image refl (subst (λ o. IfSome o (λ l. IfSome l.image (λ image. room_of c ≡ m.trace))) here.1 h.room)
     where
       by : (image : Option Parts) → here.0.image ≡ image → IfSome here.0.image (λ image. room_of c ≡ m.trace)
           → take (room_of c) ((at_limit m).cores k).seen.accesses ≡ take m.trace ((at_limit m).cores k).seen.accesses
       by None is room =
           none_taken (room_of c) m.trace ((at_limit m).cores k).seen.accesses
-          (ap (λ (x : Core). x.seen.accesses) (idle_at_end m k (site_of here.0.place no_code) h.among (among_is m.cores k here.0 here.1 ∙ first_idle here.0 is)))
+          (ap (λ (x : Core). x.seen.accesses) (idle_at_end m k (site_of here.0.place no_code) h.among
+          (among_is m.cores k here.0 here.1 ∙ first_idle here.0 is)))
       by (Some image) is room =
           let same : room_of c ≡ m.trace = subst (λ o. IfSome o (λ image. room_of c ≡ m.trace)) is room in
           ap (λ n. take n ((at_limit m).cores k).seen.accesses) same

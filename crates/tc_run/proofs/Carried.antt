@@ -13,13 +13,16 @@ use Rattle.tc_run.proofs.Lists.{all_prefix, all_back, any_prefix, any_back, any_
 use Rattle.tc_run.proofs.Workers.{later_at_work, later_have}
 
 -- a list of lists, joined, with one more at its end
-pub flat_last : {X : Type 0} (f : X → List WorkerFace) (xs rest : List X) (x : X) → xs ≡ rest ++ x ∷ [] → flat_map f xs ≡ flat_map f rest ++ f x
-flat_last f xs rest x e = ap (flat_map f) e ∙ flat_map-append f rest (x ∷ []) ∙ ap (λ ys. flat_map f rest ++ ys) (append-nil (f x))
+pub flat_last : {X : Type 0} (f : X → List WorkerFace) (xs rest : List X) (x : X) → xs ≡ rest ++ x ∷ [] → flat_map f xs
+    ≡ flat_map f rest ++ f x
+flat_last f xs rest x e =
+    ap (flat_map f) e ∙ flat_map-append f rest (x ∷ []) ∙ ap (λ ys. flat_map f rest ++ ys) (append-nil (f x))
 
 module _ (b : BoardFace) where
   -- the very same workers
   pub same_carried : (ws ws' : List WorkerFace) → ws' ≡ ws → Carries b ws ws'
-  same_carried ws ws' e = subst (Carries b ws) (sym e) (record { count = refl; on = λ h. h; work = λ m h. h; have = λ k h. h })
+  same_carried ws ws' e =
+      subst (Carries b ws) (sym e) (record { count = refl; on = λ h. h; work = λ m h. h; have = λ k h. h })
 
   -- the same workers later
   pub later_carried : (ws ws' : List WorkerFace) → AreLater ws ws' → All (IsOn b) ws' → Carries b ws ws'
@@ -40,13 +43,15 @@ module _ (b : BoardFace) where
   }
 
   module _ (xs xs' ys ys' : List WorkerFace) (c : Carries b xs xs') (d : Carries b ys ys') where
-    all_beside : (P : WorkerFace → Type 0) → (All P xs → All P xs') → (All P ys → All P ys') → All P (xs ++ ys) → All P (xs' ++ ys')
+    all_beside : (P : WorkerFace → Type 0) → (All P xs → All P xs') → (All P ys → All P ys') → All P (xs ++ ys)
+        → All P (xs' ++ ys')
     all_beside P f g h = All-append P xs' ys' (f (all_prefix P xs ys h)) (g (all_back P xs ys h))
 
     -- two lists, one after the other
     pub carried_beside : Carries b (xs ++ ys) (xs' ++ ys')
     carried_beside = record {
-      count = length-append xs' ys' ∙ ap (λ n. n + length ys') c.count ∙ ap (λ n. length xs + n) d.count ∙ sym (length-append xs ys);
+      count = length-append xs' ys' ∙ ap (λ n. n + length ys') c.count ∙ ap (λ n. length xs + n) d.count
+          ∙ sym (length-append xs ys);
       on = all_beside (IsOn b) c.on d.on;
       work = λ m. all_beside (IsAtWork m b) (c.work m) (d.work m);
       have = λ k h. elim (any_apart (λ w. number_of w ≡ k) xs ys h) [
@@ -59,7 +64,8 @@ module _ (b : BoardFace) where
   pub beside_same : (xs xs' ys : List WorkerFace) → Carries b xs xs' → Carries b (xs ++ ys) (xs' ++ ys)
   beside_same xs xs' ys c = carried_beside xs xs' ys ys c (same_carried ys ys refl)
 
-  pub begun_with : (xs xs' ys zs : List WorkerFace) → Carries b xs xs' → Carries b (xs' ++ ys) zs → Carries b (xs ++ ys) zs
+  pub begun_with : (xs xs' ys zs : List WorkerFace) → Carries b xs xs' → Carries b (xs' ++ ys) zs
+      → Carries b (xs ++ ys) zs
   begun_with xs xs' ys zs c d = carried_on (xs ++ ys) (xs' ++ ys) zs (beside_same xs xs' ys c) d
 
   -- one for the other
@@ -78,7 +84,8 @@ module _ (b : BoardFace) where
   }
 
   -- the last of them, later, to the end of the first
-  pub last_carried : (here rest ws ws' all : List WorkerFace) → all ≡ here ++ ws' → Carries b ws ws' → Carries b (here ++ (rest ++ ws)) (all ++ rest)
+  pub last_carried : (here rest ws ws' all : List WorkerFace) → all ≡ here ++ ws' → Carries b ws ws'
+      → Carries b (here ++ (rest ++ ws)) (all ++ rest)
   last_carried here rest ws ws' all e c =
       carried_on (here ++ (rest ++ ws)) (here ++ (ws' ++ rest)) (all ++ rest)
       (carried_beside here here (rest ++ ws) (ws' ++ rest) (same_carried here here refl)
@@ -86,7 +93,8 @@ module _ (b : BoardFace) where
       (same_carried (here ++ (ws' ++ rest)) (all ++ rest) (ap (λ xs. xs ++ rest) e ∙ append_assoc here ws' rest))
 
   -- the last of several lists
-  pub last_taken : {X : Type 0} (f : X → List WorkerFace) (ws ws' : List WorkerFace) (xs rest : List X) (x : X) → xs ≡ rest ++ x ∷ []
+  pub last_taken : {X : Type 0} (f : X → List WorkerFace) (ws ws' : List WorkerFace) (xs rest : List X) (x : X) → xs
+      ≡ rest ++ x ∷ []
       → Carries b (ws ++ f x) ws' → Carries b (ws ++ flat_map f xs) (ws' ++ flat_map f rest)
   last_taken f ws ws' xs rest x e c =
       carried_on (ws ++ flat_map f xs) ((ws ++ f x) ++ flat_map f rest) (ws' ++ flat_map f rest)
@@ -112,7 +120,8 @@ module _ {X W : Type 0} (f : X → List W) where
         prefix = f x;
         back = flat_map f xs;
         before = flat_map-cons f x xs;
-        after = flat_map-cons f y xs ∙ ap (λ z. z ++ flat_map f xs) (grown ∙ ap (λ z. f z ++ w ∷ []) here) ∙ append_assoc (f x) (w ∷ []) (flat_map f xs);
+        after = flat_map-cons f y xs ∙ ap (λ z. z ++ flat_map f xs) (grown ∙ ap (λ z. f z ++ w ∷ []) here)
+            ∙ append_assoc (f x) (w ∷ []) (flat_map f xs);
       }
   put_in (x ∷ xs) (suc i) o y w at below grown =
       let r = put_in xs i o y w at (omega (arith, below)) grown in
@@ -120,14 +129,16 @@ module _ {X W : Type 0} (f : X → List W) where
         prefix = f x ++ r.prefix;
         back = r.back;
         before = flat_map-cons f x xs ∙ ap (λ z. f x ++ z) r.before ∙ sym (append_assoc (f x) r.prefix r.back);
-        after = flat_map-cons f x (slice_set xs i y) ∙ ap (λ z. f x ++ z) r.after ∙ sym (append_assoc (f x) r.prefix (w ∷ r.back));
+        after = flat_map-cons f x (slice_set xs i y) ∙ ap (λ z. f x ++ z) r.after
+            ∙ sym (append_assoc (f x) r.prefix (w ∷ r.back));
       }
 
 module _ {W : Type 0} (P : W → Type 0) (w : W) (xs ys : List W) (put : IsPutIn w xs ys) where
   pub all_with : P w → All P xs → All P ys
   all_with one all =
       let parts = subst (All P) put.before all in
-      subst (All P) (sym put.after) (All-append P put.prefix (w ∷ put.back) (all_prefix P put.prefix put.back parts) (All-cons P w put.back one (all_back P put.prefix put.back parts)))
+      subst (All P) (sym put.after) (All-append P put.prefix (w ∷ put.back) (all_prefix P put.prefix put.back parts)
+      (All-cons P w put.back one (all_back P put.prefix put.back parts)))
 
   pub any_with : Any P xs → Any P ys
   any_with any = subst (Any P) (sym put.after) (elim (any_apart P put.prefix put.back (subst (Any P) put.before any)) [
@@ -136,8 +147,10 @@ module _ {W : Type 0} (P : W → Type 0) (w : W) (xs ys : List W) (put : IsPutIn
   ])
 
   pub any_new : P w → Any P ys
-  any_new one = subst (Any P) (sym put.after) (any_back P put.prefix (w ∷ put.back) (any_prefix P (w ∷ []) put.back (any_one P w one)))
+  any_new one = subst (Any P) (sym put.after) (any_back P put.prefix (w ∷ put.back) (any_prefix P (w ∷ []) put.back
+      (any_one P w one)))
 
 pub one_longer : {W : Type 0} (w : W) (xs ys : List W) → IsPutIn w xs ys → length ys ≡ length xs + 1
 one_longer w xs ys put =
-    ap length put.after ∙ length-append put.prefix (w ∷ put.back) ∙ omega (arith, length-append put.prefix put.back) ∙ ap (λ (z : List _). length z + 1) (sym put.before)
+    ap length put.after ∙ length-append put.prefix (w ∷ put.back) ∙ omega (arith, length-append put.prefix put.back)
+    ∙ ap (λ (z : List _). length z + 1) (sym put.before)

@@ -7,7 +7,8 @@ use Rattle.global_step.specs.PlainRun.{Every}
 -- what holds of all elements of two lists, holds of those of each
 pub all_prefix : {X : Type 0} (P : X → Type 0) (xs ys : List X) → All P (xs ++ ys) → All P xs
 all_prefix P [] ys h = All-nil P
-all_prefix P (x ∷ xs) ys h = All-cons P x xs (All-head P x (xs ++ ys) h) (all_prefix P xs ys (All-tail P x (xs ++ ys) h))
+all_prefix P (x ∷ xs) ys h =
+    All-cons P x xs (All-head P x (xs ++ ys) h) (all_prefix P xs ys (All-tail P x (xs ++ ys) h))
 
 pub all_back : {X : Type 0} (P : X → Type 0) (xs ys : List X) → All P (xs ++ ys) → All P ys
 all_back P [] ys h = h
@@ -37,7 +38,8 @@ pub any_one : {X : Type 0} (P : X → Type 0) (x : X) → P x → Any P (x ∷ [
 any_one P x h = (zero, x, omega arith, refl, h)
 
 -- what holds of each core by its number, holds of them and one more
-pub every_more : (P : ℕ → Cpu → Type 0) (cs : List Cpu) (c : Cpu) → Every P cs → P (length cs) c → Every P (cs ++ c ∷ [])
+pub every_more : (P : ℕ → Cpu → Type 0) (cs : List Cpu) (c : Cpu) → Every P cs → P (length cs) c
+    → Every P (cs ++ c ∷ [])
 every_more P [] c all one zero = one
 every_more P [] c all one (suc k) = tt
 every_more P (d ∷ cs) c all one zero = all zero

@@ -18,7 +18,8 @@ use Rattle.tc_run.proofs.AtEnd.{there}
 use Rattle.tc_run.proofs.Begins.{among_is, placed}
 
 -- what is the same of two lists, is the same of their members
-same_at : {A : Type 0} (f : Cpu → A) (xs ys : List Cpu) → map f ys ≡ map f xs → (k : ℕ) (d : Cpu) → k < length ys → f (get_or ys k d) ≡ f (get_or xs k d)
+same_at : {A : Type 0} (f : Cpu → A) (xs ys : List Cpu) → map f ys ≡ map f xs → (k : ℕ) (d : Cpu) → k < length ys
+    → f (get_or ys k d) ≡ f (get_or xs k d)
 same_at f xs ys e k d low =
     sym (get_or-map f ys k d (f d) low)
     ∙ ap (λ zs. get_or zs k (f d)) e
@@ -58,8 +59,10 @@ module _ (m : Machine) (cores : List Cpu) (b : AreBegun m cores) (one : AreOnePl
       let l = loading k d low in
       subst (λ x. StandsFor (get_or cores k d) x []) (sym (among_is m.cores k l.loaded l.is)) l.begun.stands)
 
-  module _ (left : List Cpu) (limit : ℕ) (e : limit ≡ m.limit) (places : map place_of left ≡ map place_of cores) (rooms : map room_of left ≡ map room_of cores)
-      (stands : Every (λ k c. StandsFor c (core_among m.cores k) (operations_among (length cores) k (cycled turn (length cores) (core_among m.cores) limit).made)) left)
+  module _ (left : List Cpu) (limit : ℕ) (e : limit ≡ m.limit) (places : map place_of left ≡ map place_of cores)
+      (rooms : map room_of left ≡ map room_of cores)
+      (stands : Every (λ k c. StandsFor c (core_among m.cores k) (operations_among (length cores) k
+      (cycled turn (length cores) (core_among m.cores) limit).made)) left)
       (through : Every (λ k. IsThrough) left) (limits : Every (λ k c. limit_of c ≡ limit) left) where
     as_many : length left ≡ length cores
     as_many = sym (length-map left place_of) ∙ ap length places ∙ length-map cores place_of
@@ -67,8 +70,10 @@ module _ (m : Machine) (cores : List Cpu) (b : AreBegun m cores) (one : AreOnePl
     all_stand : Every (λ k c. StandsFor c (core_among m.cores k) (operations_of m k)) left
     unfolding machine
     all_stand =
-        subst (λ n. Every (λ k c. StandsFor c (core_among m.cores k) (operations_among n k (cycled turn n (core_among m.cores) m.limit).made)) left) b.count
-        (subst (λ t. Every (λ k c. StandsFor c (core_among m.cores k) (operations_among (length cores) k (cycled turn (length cores) (core_among m.cores) t).made)) left) e stands)
+        subst (λ n. Every (λ k c. StandsFor c (core_among m.cores k)
+        (operations_among n k (cycled turn n (core_among m.cores) m.limit).made)) left) b.count
+        (subst (λ t. Every (λ k c. StandsFor c (core_among m.cores k) (operations_among (length cores) k
+        (cycled turn (length cores) (core_among m.cores) t).made)) left) e stands)
 
     final : (k : ℕ) (d : Cpu) → k < length left → IsFinalCore m k (get_or left k d)
     final k d low =
@@ -79,16 +84,20 @@ module _ (m : Machine) (cores : List Cpu) (b : AreBegun m cores) (one : AreOnePl
           stands = every_at (λ j c. StandsFor c (core_among m.cores j) (operations_of m j)) left k d all_stand low;
           through = every_at (λ j. IsThrough) left k d through low;
           limit = every_at (λ j c. limit_of c ≡ limit) left k d limits low ∙ e;
-          place = subst (λ o. IfSome o (λ c. place_of (get_or left k d) ≡ c.place)) (sym l.is) (same_at place_of cores left places k d low ∙ l.begun.place);
+          place = subst (λ o. IfSome o (λ c. place_of (get_or left k d) ≡ c.place)) (sym l.is)
+              (same_at place_of cores left places k d low ∙ l.begun.place);
           room = subst (λ o. IfSome o (λ c. IfSome c.image (λ image. room_of (get_or left k d) ≡ m.trace))) (sym l.is)
-              (subst (λ n. IfSome l.loaded.image (λ image. n ≡ m.trace)) (sym (same_at room_of cores left rooms k d low)) l.begun.room);
+              (subst (λ n. IfSome l.loaded.image (λ image. n ≡ m.trace))
+              (sym (same_at room_of cores left rooms k d low)) l.begun.room);
         }
 
     pub all_final : AreFinal m left
     all_final = record { count = as_many ∙ b.count; each = every_from (IsFinalCore m) left final }
 
   -- the words that it leaves
-  pub words_at_end : (limit w value : ℕ) → limit ≡ m.limit → value ≡ (cycled turn (length cores) (core_among m.cores) limit).words w → value ≡ (at_limit m).words w
+  pub words_at_end : (limit w value : ℕ) → limit ≡ m.limit → value
+      ≡ (cycled turn (length cores) (core_among m.cores) limit).words w → value ≡ (at_limit m).words w
   unfolding machine
   words_at_end limit w value e h =
-      h ∙ ap (λ n. (cycled turn n (core_among m.cores) limit).words w) b.count ∙ ap (λ t. (cycled turn (length m.cores) (core_among m.cores) t).words w) e
+      h ∙ ap (λ n. (cycled turn n (core_among m.cores) limit).words w) b.count
+      ∙ ap (λ t. (cycled turn (length m.cores) (core_among m.cores) t).words w) e

@@ -17,18 +17,22 @@ module _ (xs xs' : List WorkerFace) (at : ℕ) (left : IsLeft xs xs' at) where
   -- what holds of all holds of those that are left
   pub all_left : (P : WorkerFace → Type 0) → All P xs → All P xs'
   all_left P all k d below = elim (cases_lt k at) [
-    | inl low ↦ subst P (sym (left.others k d (λ e. omega (arith, e, low)) (omega (arith, below, left.size')))) (all k d (omega (arith, below, left.size', left.size)))
+    | inl low ↦ subst P (sym (left.others k d (λ e. omega (arith, e, low)) (omega (arith, below, left.size'))))
+        (all k d (omega (arith, below, left.size', left.size)))
     | inr high ↦ elim (cases_lt at k) [
-      | inl more ↦ subst P (sym (left.others k d (λ e. omega (arith, e, more)) (omega (arith, below, left.size')))) (all k d (omega (arith, below, left.size', left.size)))
+      | inl more ↦ subst P (sym (left.others k d (λ e. omega (arith, e, more)) (omega (arith, below, left.size'))))
+          (all k d (omega (arith, below, left.size', left.size)))
       | inr same ↦
           let e : at ≡ k = omega (arith, high, same) in
           subst (λ j. P (slice_index_or xs' j d)) e
-          (subst P (sym (left.here d (omega (arith, e, below, left.size')))) (all (left.n - 1) d (omega (arith, left.size, left.within))))
+          (subst P (sym (left.here d (omega (arith, e, below, left.size'))))
+          (all (left.n - 1) d (omega (arith, left.size, left.within))))
     ]
   ]
 
   -- the workers of other cores are left
-  pub others_left : (core k : ℕ) → ((d : WorkerFace) → number_of (slice_index_or xs at d) ≡ core) → k ≢ core → HasWorker xs k → HasWorker xs' k
+  pub others_left : (core k : ℕ) → ((d : WorkerFace) → number_of (slice_index_or xs at d) ≡ core) → k ≢ core
+      → HasWorker xs k → HasWorker xs' k
   others_left core k taken other (j, w, below, is, h) = elim (cases_lt j at) [
     | inl low ↦ elim (cases_lt (j + 1) left.n) [
       | inl inner ↦ (j, w, omega (arith, inner, left.size'), left.others j w (λ e. omega (arith, e, low)) inner ∙ is, h)
@@ -36,10 +40,21 @@ module _ (xs xs' : List WorkerFace) (at : ℕ) (left : IsLeft xs xs' at) where
     ]
     | inr high ↦ elim (cases_lt at j) [
       | inl more ↦ elim (cases_lt (j + 1) left.n) [
-        | inl inner ↦ (j, w, omega (arith, inner, left.size'), left.others j w (λ e. omega (arith, e, more)) inner ∙ is, h)
+        | inl inner ↦ (
+          j,
+          w,
+          omega (arith, inner, left.size'),
+          left.others j w (λ e. omega (arith, e, more)) inner ∙ is,
+          h,
+        )
         | inr outer ↦
-            let last : left.n - 1 ≡ j = omega (arith, outer, below, left.size) in
-            (at, w, omega (arith, more, below, left.size, left.size'), left.here w (omega (arith, more, below, left.size)) ∙ ap (λ i. slice_index_or xs i w) last ∙ is, h)
+            let last : left.n - 1 ≡ j = omega (arith, outer, below, left.size) in (
+              at,
+              w,
+              omega (arith, more, below, left.size, left.size'),
+              left.here w (omega (arith, more, below, left.size)) ∙ ap (λ i. slice_index_or xs i w) last ∙ is,
+              h,
+            )
       ]
       | inr same ↦
           let e : j ≡ at = omega (arith, high, same) in

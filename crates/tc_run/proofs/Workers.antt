@@ -24,40 +24,51 @@ use Rattle.tc_run.proofs.Begins.{among_is, placed}
 use Rattle.tc_run.proofs.AtEnd.{site_cores, site_core}
 
 -- the machine's core by itself, on its own loads, makes what it makes in the machine
-first_makes : (m : Machine) (k : ℕ) (l : LoadedCore) → AreOnePlatform m.cores → slice_get m.cores k ≡ Some l → Makes (core_among m.cores k) (operations_of m k) m.limit
+first_makes : (m : Machine) (k : ℕ) (l : LoadedCore) → AreOnePlatform m.cores → slice_get m.cores k ≡ Some l
+    → Makes (core_among m.cores k) (operations_of m k) m.limit
 unfolding machine
 first_makes m k l platform is =
     let at = placed m.cores k l platform is in
-    let n_is : (core_among m.cores k).plain.site.cores ≡ length m.cores = ap (λ (x : Core). x.plain.site.cores) (among_is m.cores k l is) ∙ site_cores l ∙ at.0 in
-    let k_is : (core_among m.cores k).plain.site.core ≡ k = ap (λ (x : Core). x.plain.site.core) (among_is m.cores k l is) ∙ site_core l ∙ at.1 in
-    ap (λ n. (apart turn n (core_among m.cores k).plain.site.core (core_among m.cores k) (loads (operations_of m k)) m.limit).made) n_is
+    let n_is : (core_among m.cores k).plain.site.cores ≡ length m.cores =
+    ap (λ (x : Core). x.plain.site.cores) (among_is m.cores k l is) ∙ site_cores l ∙ at.0 in
+    let k_is : (core_among m.cores k).plain.site.core ≡ k =
+    ap (λ (x : Core). x.plain.site.core) (among_is m.cores k l is) ∙ site_core l ∙ at.1 in
+    ap (λ n. (apart turn n (core_among m.cores k).plain.site.core (core_among m.cores k) (loads (operations_of m k))
+    m.limit).made) n_is
     ∙ ap (λ j. (apart turn (length m.cores) j (core_among m.cores k) (loads (operations_of m k)) m.limit).made) k_is
     ∙ operations_are_apart turn (length m.cores) (core_among m.cores) m.limit k (slice_get_within m.cores k l is)
 
 -- the course's list of a pass is the machine's of its core
-listed_is : (m : Machine) (k : ℕ) (v : View) → v.cores ≡ length m.cores → (own v).core ≡ k → v.course ≡ all_operations m → listed v ≡ operations_of m k
+listed_is : (m : Machine) (k : ℕ) (v : View) → v.cores ≡ length m.cores → (own v).core ≡ k → v.course ≡ all_operations m
+    → listed v ≡ operations_of m k
 listed_is m k v cores core course =
-    ap (λ n. operations_among n (own v).core v.course) cores ∙ ap (λ j. operations_among (length m.cores) j v.course) core ∙ ap (operations_among (length m.cores) k) course
+    ap (λ n. operations_among n (own v).core v.course) cores ∙ ap (λ j. operations_among (length m.cores) j v.course)
+    core ∙ ap (operations_among (length m.cores) k) course
 
-module _ (m : Machine) (platform : AreOnePlatform m.cores) (c : Cpu) (v : View) (first : IsFirst m c) (fresh : own v ≡ empty (number c))
+module _ (m : Machine) (platform : AreOnePlatform m.cores) (c : Cpu) (v : View) (first : IsFirst m c)
+    (fresh : own v ≡ empty (number c))
     (cores : v.cores ≡ length m.cores) (course : v.course ≡ all_operations m) where
   pub first_stands : StandsFor c (core_among m.cores (number c)) []
-  first_stands = subst (λ x. StandsFor c x []) (sym (among_is m.cores (number c) first.loaded first.there)) first.begun.stands
+  first_stands =
+      subst (λ x. StandsFor c x []) (sym (among_is m.cores (number c) first.loaded first.there)) first.begun.stands
 
   pub makes_listed : Makes (core_among m.cores (number c)) (listed v) m.limit
   makes_listed =
-      subst (λ list. Makes (core_among m.cores (number c)) list m.limit) (sym (listed_is m (number c) v cores (ap (λ r. r.core) fresh) course))
+      subst (λ list. Makes (core_among m.cores (number c)) list m.limit)
+      (sym (listed_is m (number c) v cores (ap (λ r. r.core) fresh) course))
       (first_makes m (number c) first.loaded platform first.there)
 
   pub begins_as : RunsAs (core_among m.cores (number c)) m.limit c v
   begins_as = record {
     stands = subst (StandsFor c (core_among m.cores (number c))) (sym (ap (λ r. r.made) fresh)) first_stands;
     makes = makes_listed;
-    next = subst (λ o. IfSome o (IsNextWhole (core_among m.cores (number c)) (own v).made m.limit)) (sym first.begun.waiting) tt;
+    next = subst (λ o. IfSome o (IsNextWhole (core_among m.cores (number c)) (own v).made m.limit))
+        (sym first.begun.waiting) tt;
   }
 
 -- a worker that was made so
-pub new_worker : (m : Machine) (c : Cpu) (p : PassFace) → AreOnePlatform m.cores → IsFirst m c → own p.view ≡ empty (number c)
+pub new_worker : (m : Machine) (c : Cpu) (p : PassFace) → AreOnePlatform m.cores → IsFirst m c → own p.view
+    ≡ empty (number c)
     → p.view.cores ≡ length m.cores → p.view.course ≡ all_operations m → IsWorkerOf m (face c p m.limit)
 new_worker m c p platform first fresh cores course = record {
   among = slice_get_within m.cores (number c) first.loaded first.there;
@@ -77,7 +88,8 @@ later_worker m w w' later is =
     let same : number_of w ≡ number_of w' = ap (λ (p : Place). p.core) (sym later.goes_on.place) in
     let runs : RunsAs (core_among m.cores (number_of w)) w'.limit w'.core w'.pass.view =
     subst (λ t. RunsAs (core_among m.cores (number_of w)) t w'.core w'.pass.view) (sym later.limit)
-    (later.goes_on.runs (core_among m.cores (number_of w)) (subst (λ t. RunsAs (core_among m.cores (number_of w)) t w.core w.pass.view) (sym is.limit) is.run)) in
+    (later.goes_on.runs (core_among m.cores (number_of w))
+    (subst (λ t. RunsAs (core_among m.cores (number_of w)) t w.core w.pass.view) (sym is.limit) is.run)) in
     record {
       among = subst (λ k. k < length m.cores) same is.among;
       platform = is.platform;
@@ -89,7 +101,8 @@ later_worker m w w' later is =
       place = subst (λ k. IfSome (slice_get m.cores k) (λ l. place_of w'.core ≡ l.place)) same
           (subst (λ p. IfSome (slice_get m.cores (number_of w)) (λ l. p ≡ l.place)) (sym later.goes_on.place) is.place);
       room = subst (λ k. IfSome (slice_get m.cores k) (λ l. IfSome l.image (λ image. room_of w'.core ≡ m.trace))) same
-          (subst (λ r. IfSome (slice_get m.cores (number_of w)) (λ l. IfSome l.image (λ image. r ≡ m.trace))) (sym later.goes_on.room) is.room);
+          (subst (λ r. IfSome (slice_get m.cores (number_of w)) (λ l. IfSome l.image (λ image. r ≡ m.trace)))
+          (sym later.goes_on.room) is.room);
       limit = later.limit ∙ is.limit;
     }
 
@@ -99,7 +112,8 @@ module _ (m : Machine) (w : WorkerFace) (is : IsWorkerOf m w) (done : IsDone w) 
   ends_as = record {
     among = is.among;
     platform = is.platform;
-    stands = subst (StandsFor w.core (core_among m.cores (number_of w))) (done.made ∙ listed_is m (number_of w) w.pass.view is.cores is.core is.course) is.run.stands;
+    stands = subst (StandsFor w.core (core_among m.cores (number_of w)))
+        (done.made ∙ listed_is m (number_of w) w.pass.view is.cores is.core is.course) is.run.stands;
     through = done.through;
     limit = done.at ∙ is.limit;
     place = is.place;
@@ -116,7 +130,11 @@ module _ (ws ws' : List WorkerFace) (later : AreLater ws ws') where
   pub later_at_work : (m : Machine) (b : BoardFace) → All (IsOn b) ws' → All (IsAtWork m b) ws → All (IsAtWork m b) ws'
   later_at_work m b on work k d below =
       let low : k < length ws = omega (arith, below, later.count) in
-      record { of = later_worker m (slice_index_or ws k d) (slice_index_or ws' k d) (later.later k d low) (work k d low).of; on = on k d below }
+      record {
+        of = later_worker m (slice_index_or ws k d) (slice_index_or ws' k d) (later.later k d low)
+            (work k d low).of;
+        on = on k d below;
+      }
 
   -- and of the same cores
   pub later_have : (j : ℕ) → HasWorker ws j → HasWorker ws' j
@@ -131,5 +149,7 @@ module _ (ws ws' : List WorkerFace) (later : AreLater ws ws') where
       )
 
 -- at work and done is through
-pub done_through : (m : Machine) (b : BoardFace) (ws : List WorkerFace) → All (IsAtWork m b) ws → All IsDone ws → All (IsThroughWith m b) ws
-done_through m b ws work done k d below = record { of = (work k d below).of; on = (work k d below).on; done = done k d below }
+pub done_through : (m : Machine) (b : BoardFace) (ws : List WorkerFace) → All (IsAtWork m b) ws → All IsDone ws
+    → All (IsThroughWith m b) ws
+done_through m b ws work done k d below =
+    record { of = (work k d below).of; on = (work k d below).on; done = done k d below }

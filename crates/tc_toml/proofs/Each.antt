@@ -9,17 +9,20 @@ behind prefix None = None
 behind prefix (Some xs) = Some (prefix ++ xs)
 
 -- one more element was found something in
-pub behind_more : {A : Type 0} (prefix : List A) (x : A) (rest : Option (List A)) → behind prefix (in_front (Some x) rest) ≡ behind (prefix ++ x ∷ []) rest
-behind_more prefix x None = refl
-behind_more prefix x (Some xs) = ap Some (sym (append_assoc prefix (x ∷ []) xs))
+pub after_more : {A : Type 0} (prefix : List A) (x : A) (rest : Option (List A))
+    → behind prefix (in_front (Some x) rest) ≡ behind (prefix ++ x ∷ []) rest
+after_more prefix x None = refl
+after_more prefix x (Some xs) = ap Some (sym (append_assoc prefix (x ∷ []) xs))
 
-pub more_of : {A B : Type 0} (f : A → Option B) (xs : List A) (i : ℕ) (d : A) (prefix : List B) (y : B) (all : Option (List B)) → i < length xs → f (get_or xs i d) ≡ Some y
+pub more_of : {A B : Type 0} (f : A → Option B) (xs : List A) (i : ℕ) (d : A) (prefix : List B) (y : B)
+    (all : Option (List B)) → i < length xs → f (get_or xs i d) ≡ Some y
     → behind prefix (each_of f (drop i xs)) ≡ all → behind (prefix ++ y ∷ []) (each_of f (drop (i + 1) xs)) ≡ all
 more_of f xs i d prefix y all within found held =
-    sym (behind_more prefix y (each_of f (drop (i + 1) xs)))
+    sym (after_more prefix y (each_of f (drop (i + 1) xs)))
     ∙ sym (rw (drop_more xs i d within, found) refl)
     ∙ held
 
-pub none_of : {A B : Type 0} (f : A → Option B) (xs : List A) (i : ℕ) (d : A) (prefix : List B) (all : Option (List B)) → i < length xs → f (get_or xs i d) ≡ None
+pub none_of : {A B : Type 0} (f : A → Option B) (xs : List A) (i : ℕ) (d : A) (prefix : List B) (all : Option (List B))
+    → i < length xs → f (get_or xs i d) ≡ None
     → behind prefix (each_of f (drop i xs)) ≡ all → all ≡ None
 none_of f xs i d prefix all within found held = sym held ∙ rw (drop_more xs i d within, found) refl

@@ -6,11 +6,13 @@ use Rattle.toml.specs.Data.{Members}
 use Rattle.toml.specs.Parse.{parse_document}
 use Rattle.tc_toml.specs.Tree.{tree_of}
 
-pub tree_of_text : (bytes : List ℕ) (ms : Members) → IsUtf8 bytes → parse_document bytes ≡ Some ms → tree_of bytes ≡ Some ms
+pub tree_of_text : (bytes : List ℕ) (ms : Members) → IsUtf8 bytes → parse_document bytes ≡ Some ms
+    → tree_of bytes ≡ Some ms
 unfolding tree_of
 tree_of_text bytes ms text is = rw (is_utf8-from_IsUtf8 bytes text) is
 
-none_by_cases : (bytes : List ℕ) (text : Bool) → is_utf8 bytes ≡ text → (IsUtf8 bytes → parse_document bytes ≡ None) → cond text (parse_document bytes) None ≡ None
+none_by_cases : (bytes : List ℕ) (text : Bool) → is_utf8 bytes ≡ text → (IsUtf8 bytes → parse_document bytes ≡ None)
+    → cond text (parse_document bytes) None ≡ None
 none_by_cases bytes true is none = none (IsUtf8-from_is_utf8 bytes is)
 none_by_cases bytes false is none = refl
 

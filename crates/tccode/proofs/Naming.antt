@@ -9,7 +9,8 @@ first_name : (i : PlainItem) (items : List PlainItem) → names_in (i ∷ items)
 first_name (global of) items = refl
 first_name (function kind its_name void_word parameters body) items = refl
 
-pub next_name : (old new : List (List ℕ)) (items : List Item) (k : ℕ) (i : Item) → k < length items → i ≡ get_or items k i → new ≡ old ++ names_in (plain_item i ∷ [])
+pub next_name : (old new : List (List ℕ)) (items : List Item) (k : ℕ) (i : Item) → k < length items → i
+    ≡ get_or items k i → new ≡ old ++ names_in (plain_item i ∷ [])
     → new ++ names_in (map plain_item (drop (k + 1) items)) ≡ old ++ names_in (map plain_item (drop k items))
 next_name old new items k i within is added =
     let more = names_in (map plain_item (drop (k + 1) items)) in

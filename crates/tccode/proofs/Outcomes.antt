@@ -24,7 +24,8 @@ unfolding bytes_answer
 bytes_answer-within bytes within = grind (arith, nat_tests)
 
 -- no answer has the status of a fault of the outside
-coded_answer-status : (job : Job) (coded : Result (List (Option Coded)) CoreRefusal) → (coded_answer job coded).status < 5
+coded_answer-status : (job : Job) (coded : Result (List (Option Coded)) CoreRefusal)
+    → (coded_answer job coded).status < 5
 coded_answer-status job (Ok coded) = omega arith
 coded_answer-status job (Err refusal) = omega arith
 
@@ -43,18 +44,23 @@ answer-status [] bytes = bytes_answer-status bytes
 answer-status (word ∷ words) bytes = omega arith
 
 module _ (failed : Type 0) (status faults faults' : ℕ) (taken taken' : Option (List ℕ)) where
-  pub sent_too_long : (left : Option (List ℕ)) → IfSome left (λ bytes. MOST_BYTES < length bytes) → IsSent too_long status faults faults' taken taken'
+  pub sent_too_long : (left : Option (List ℕ)) → IfSome left (λ bytes. MOST_BYTES < length bytes)
+      → IsSent too_long status faults faults' taken taken'
       → IfSome left (λ bytes. Ends (bytes_answer bytes) failed status faults faults' taken taken')
   sent_too_long None long sent = tt
   sent_too_long (Some bytes) long sent = rw (bytes_answer-too_long bytes long) (inr (inl sent))
 
-  pub sent_within : (left : Option (List ℕ)) (came : List ℕ) → IfSome left (λ bytes. came ≡ bytes) → length came ≤ MOST_BYTES → IsSent (job_answer (job_of came)) status faults faults' taken taken'
+  pub sent_within : (left : Option (List ℕ)) (came : List ℕ) → IfSome left (λ bytes. came ≡ bytes)
+      → length came ≤ MOST_BYTES → IsSent (job_answer (job_of came)) status faults faults' taken taken'
       → IfSome left (λ bytes. Ends (bytes_answer bytes) failed status faults faults' taken taken')
   sent_within None came all within sent = tt
   sent_within (Some bytes) came all within sent = rw (← all, bytes_answer-within came within) (inr (inl sent))
 
   -- without words, what was written is for the job
-  pub written_of_job : (words : List (List ℕ)) (left : Option (List ℕ)) → true ≡ (length words == 0) → IfSome left (λ bytes. Ends (bytes_answer bytes) failed status faults faults' taken taken')
+  pub written_of_job : (words : List (List ℕ)) (left : Option (List ℕ)) → true ≡ (length words == 0)
+      → IfSome left (λ bytes. Ends (bytes_answer bytes) failed status faults faults' taken taken')
       → IfSome left (λ bytes. HasWritten (answer words bytes) failed status taken taken')
-  written_of_job [] left none ends = written_if (answer []) failed status faults faults' taken taken' left (answer-status []) ends
-  written_of_job (word ∷ words) left none ends = let no_words : length (word ∷ words) ≡ 0 = grind (arith, nat_tests, none) in absurd (omega (arith, no_words))
+  written_of_job [] left none ends =
+      written_if (answer []) failed status faults faults' taken taken' left (answer-status []) ends
+  written_of_job (word ∷ words) left none ends =
+      let no_words : length (word ∷ words) ≡ 0 = grind (arith, nat_tests, none) in absurd (omega (arith, no_words))

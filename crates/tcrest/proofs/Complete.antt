@@ -15,8 +15,8 @@ use Rattle.tcrest.specs.declared.command.JobCommand.TheVariants.{Run}
 use Rattle.job_tasks.specs.declared.calls.TheConstants.{MOST_BYTES}
 use Rattle.tcrest.specs.Answer.{answer_or, command_answer, job_answer, report_of}
 use Rattle.tcrest.specs.Complete.{HasCode, assembles, compiles, IsWhole}
-use Rattle.tcrest.specs.Machine.{cores_from, machine_of}
-use Rattle.tcrest.specs.Rows.{rows_of, is_early, status_of}
+use Rattle.job_rows.specs.Machine.{cores_from, machine_of}
+use Rattle.job_rows.specs.Rows.{rows_of, is_early, status_of}
 use Rattle.job_tasks.specs.Tasks.{Coded, Made, coded_from, coded_on, coded, made_by, made_in, of_code, of_program, on_core, runs_on, taken, task_on, ◌>>=◌}
 use Rattle.tcrest.specs.Telling.{HasReport}
 use Rattle.tcrest.proofs.Outcomes.{bytes_answer-within}
@@ -35,24 +35,28 @@ made_of job t (assembles code asm is) = record {
   made = of_code code;
   is = ap (λ l. made_in job t.core l t.source) asm ∙ ap (λ r. coded r >>= λ c. Ok (of_code c)) is;
 }
-made_of job t (compiles items c is few) = let fits : nat_le (bound_on job.table job.slot t.core items) MOST_BOUND ≡ true = bound_fits (bound_on job.table job.slot t.core items) few in record {
-  made = of_program job t.core items;
-  is = ap (λ l. made_in job t.core l t.source) c
-      ∙ ap (λ r. taken (within job.table job.slot t.core r) >>= λ ps. Ok (of_program job t.core ps)) is
-      ∙ ap (λ b. taken (if b then Ok items else Err too_long) >>= λ ps. Ok (of_program job t.core ps)) fits;
-}
+made_of job t (compiles items c is few) = let fits : nat_le (bound_on job.table job.slot t.core items) MOST_BOUND
+    ≡ true = bound_fits (bound_on job.table job.slot t.core items) few in record {
+      made = of_program job t.core items;
+      is = ap (λ l. made_in job t.core l t.source) c
+          ∙ ap (λ r. taken (within job.table job.slot t.core r) >>= λ ps. Ok (of_program job t.core ps)) is
+          ∙ ap (λ b. taken (if b then Ok items else Err too_long) >>= λ ps. Ok (of_program job t.core ps)) fits;
+    }
 
 pub record AreMade (job : Job) (core count : ℕ) : Type 0 where
   pub coded : List (Option Coded)
   pub is : coded_from job core count ≡ Ok coded
 
 -- so are the tasks of cores, where each task of the job has code
-one_made : (job : Job) (core count : ℕ) (found : Option Task) → IfSome found (HasCode job) → AreMade job (core + 1) count
-    → (cs : List (Option Coded)) × ((coded_on job core found >>= λ c. coded_from job (core + 1) count >>= λ cs. Ok (c ∷ cs)) ≡ Ok cs)
+one_made : (job : Job) (core count : ℕ) (found : Option Task) → IfSome found (HasCode job)
+    → AreMade job (core + 1) count
+    → (cs : List (Option Coded)) × ((coded_on job core found >>= λ c. coded_from job (core + 1) count >>= λ cs. Ok
+    (c ∷ cs)) ≡ Ok cs)
 one_made job core count None has more = (None ∷ more.coded, ap (λ r. r >>= λ cs. Ok (None ∷ cs)) more.is)
 one_made job core count (Some t) has more = (
   Some (record { task = t; made = m.made }) ∷ more.coded,
-  ap (λ r. (on_core core r >>= λ made. Ok (Some (record { task = t; made = made }))) >>= λ c. coded_from job (core + 1) count >>= λ cs. Ok (c ∷ cs)) m.is
+  ap (λ r. (on_core core r >>= λ made. Ok (Some (record { task = t; made = made }))) >>= λ c. coded_from job
+      (core + 1) count >>= λ cs. Ok (c ∷ cs)) m.is
       ∙ ap (λ r. r >>= λ cs. Ok (Some (record { task = t; made = m.made }) ∷ cs)) more.is,
 )
   where
@@ -62,7 +66,8 @@ one_made job core count (Some t) has more = (
 pub all_made : (job : Job) → Each (HasCode job) job.tasks → (core count : ℕ) → AreMade job core count
 all_made job has core zero = record { coded = []; is = refl }
 all_made job has core (suc count) =
-    let one = one_made job core count (task_on job.tasks core) (found_among (HasCode job) job.tasks core has) (all_made job has (core + 1) count) in
+    let one = one_made job core count (task_on job.tasks core) (found_among (HasCode job) job.tasks core has)
+    (all_made job has (core + 1) count) in
     record { coded = one.0; is = one.1 }
 
 pub status_is : (rows : List Row) → HasReport (status_of rows)
@@ -72,14 +77,16 @@ status_is rows = by (list_any (λ r. is_early r.state) rows)
     by true = inr refl
     by false = inl refl
 
-pub reported_whole : (bytes : List ℕ) (job : Job) → length bytes ≤ MOST_BYTES → job_of bytes ≡ Ok job → Each (HasCode job) job.tasks
+pub reported_whole : (bytes : List ℕ) (job : Job) → length bytes ≤ MOST_BYTES → job_of bytes ≡ Ok job
+    → Each (HasCode job) job.tasks
     → IsWhole job (command_answer (OfJob Run) bytes)
 reported_whole bytes job few is has = record {
   coded = made.coded;
   made = made.is;
   report = reported;
   status = subst (λ a. HasReport a.status) (sym reported)
-      (status_is (rows_of job.cycles job.trace (map runs_on made.coded) (machine_of job (cores_from job 0 made.coded))));
+      (status_is (rows_of job.cycles job.trace (map runs_on made.coded)
+      (machine_of job (cores_from job 0 made.coded))));
 }
   where
     made : AreMade job 0 job.cores

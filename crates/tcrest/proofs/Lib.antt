@@ -1,7 +1,5 @@
 pub mod Outcomes
-pub mod CoresFound
-pub mod OutputFound
-pub mod RowsFound
+pub mod ReportFound
 pub mod Lines
 pub mod Piped
 pub mod Outs

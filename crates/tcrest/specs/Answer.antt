@@ -21,10 +21,10 @@ use Rattle.tcrest.specs.Bounds.{bounds_text}
 use Rattle.tcrest.specs.declared.bounds.Bounds.TheVariants.{Plain, Persistent}
 use Rattle.tcrest.specs.Command.{command_of}
 use Rattle.tcrest.specs.Listing.{listings}
-use Rattle.tcrest.specs.Machine.{begun_on, cores_from, machine_of}
+use Rattle.job_rows.specs.Machine.{begun_on, cores_from, machine_of}
 use Rattle.tcrest.specs.Meanings.{meanings}
 use Rattle.tcrest.specs.Pipe.{fault_name, is_lone, pipe_of}
-use Rattle.tcrest.specs.Rows.{rows_of, status_of, report_rows}
+use Rattle.job_rows.specs.Rows.{rows_of, status_of, report_rows}
 use Rattle.job_tasks.specs.Answer.{lone_line, too_long, no_job, no_task, whole}
 use Rattle.job_tasks.specs.Tasks.{Coded, coded_from, runs_on}
 

@@ -1,13 +1,9 @@
 pub mod Command
 pub mod Listing
 pub mod Meanings
-pub mod Machine
-pub mod Loading
-pub mod Rows
 pub mod Pipe
 pub mod PipeTold
 pub mod Answer
 pub mod Bounds
 pub mod Telling
 pub mod Complete
-pub mod Worked

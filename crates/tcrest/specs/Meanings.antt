@@ -1,22 +1,19 @@
 -- To be believed. What `mean` writes: of each C task what its program means on its input.
-use Rattle.std.specs.Prelude.{ℕ, nat_lt, if◌then◌else◌, List, [], ◌++◌, codes, Option, Some, None, slice_get}
+use Rattle.std.specs.Prelude.{ℕ, nat_lt, if◌then◌else◌, List, [], ◌++◌, codes, Option, Some, None}
 use Rattle.c_tree.specs.declared.layout.Slot.{Slot}
-use Rattle.c_tree.specs.Layout.{layout_of}
 use Rattle.c_tree.specs.Plain.{PlainItem}
 use Rattle.c_meaning.specs.Begun.{meaning}
 use Rattle.c_meaning.specs.Meaning.{Outcome}
-use Rattle.c_run.specs.Reported.{slot_words, output_number}
+use Rattle.c_run.specs.Reported.{slot_words}
 use Rattle.c_world.specs.World.{World}
 use Rattle.tc_report.specs.Line.{line, about, mean_line, outs_from}
+use Rattle.job_rows.specs.Rows.{output_slot}
 use Rattle.job_tasks.specs.Tasks.{Bounded, Made, Coded, told_from}
 
 -- the words of the array `out` at the end, where there is one
 abbrev pub outs_of : ℕ → World → Option Slot → List ℕ
 outs_of core w None = []
 outs_of core w (Some s) = outs_from core s.unsigned 0 (slot_words w s)
-
-abbrev pub output_slot : List PlainItem → Option Slot
-output_slot items = elim (output_number items) [ None ↦ None | Some number ↦ slice_get (layout_of items) number ]
 
 -- what a program gave
 abbrev pub given_lines : ℕ → List PlainItem → Outcome → List ℕ

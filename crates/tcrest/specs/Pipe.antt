@@ -13,7 +13,7 @@ use Rattle.tc_report.specs.Report.{platform_line, state_line}
 use Rattle.job_tasks.specs.declared.answers.Answer.{Answer}
 use Rattle.tcrest.specs.declared.pipe.PipeFault.{PipeFault}
 use Rattle.tcrest.specs.declared.pipe.PipeFault.TheVariants.{OneCore}
-use Rattle.tcrest.specs.Rows.{status_of}
+use Rattle.job_rows.specs.Rows.{status_of}
 
 -- the number of a fault that `pipe` alone finds, after those of any job, and its name
 abbrev pub fault_number : PipeFault → ℕ

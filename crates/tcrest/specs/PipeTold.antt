@@ -10,7 +10,7 @@ use Rattle.tc_report.specs.declared.rows.Row.{Row}
 use Rattle.job_tasks.specs.declared.answers.Answer.{Answer}
 use Rattle.job_tasks.specs.Tasks.{Runs, nothing, assembly, program}
 use Rattle.tcrest.specs.Pipe.{pipe_of}
-use Rattle.tcrest.specs.Rows.{bare_row, is_flagged, running}
+use Rattle.job_rows.specs.Rows.{bare_row, is_flagged, running}
 
 -- the row has no words, starts or transactions
 abbrev pub told_row : Runs → CoreState → Row

@@ -20,10 +20,10 @@ use Rattle.tcrest.specs.declared.command.Command.{Command}
 use Rattle.tcrest.specs.declared.command.Command.TheVariants.{OfJob, Grid, Gen, Bench, Usage}
 use Rattle.tcrest.specs.declared.command.JobCommand.{JobCommand}
 use Rattle.tcrest.specs.declared.command.JobCommand.TheVariants.{Run, Bound, Asm, Mean, Pipe, Persist}
-use Rattle.tcrest.specs.Machine.{cores_from, machine_of}
-use Rattle.tcrest.specs.Meanings.{output_slot}
+use Rattle.job_rows.specs.Machine.{cores_from, machine_of}
+use Rattle.job_rows.specs.Rows.{output_slot}
 use Rattle.tcrest.specs.Pipe.{is_lone}
-use Rattle.tcrest.specs.Rows.{rows_of, words_out}
+use Rattle.job_rows.specs.Rows.{rows_of, words_out}
 use Rattle.job_tasks.specs.Tasks.{Bounded, Coded, coded_from, runs_on}
 
 -- a place on the platform of a job, at which a task starts in a cycle

@@ -1,8 +1,5 @@
-ghost use Rattle.std.specs.Prelude.{◌≡◌, ℕ, ◌<◌, ◌≤◌, ◌↔◌, false, List, [], ◌∷◌, Some, Ok, length, map, codes};
+ghost use Rattle.std.specs.Prelude.{◌≡◌, ℕ, ◌<◌, ◌≤◌, ◌↔◌, List, [], ◌∷◌, Some, Ok, length, codes};
 ghost use Rattle.std.specs.List.{AllByRecursion as Each};
-ghost use Rattle.patmos_model.specs.State.{Core};
-ghost use Rattle.global_step.specs.Loaded.{Machine};
-ghost use Rattle.global_step.specs.Machine.{at_limit};
 ghost use Rattle.tc_job.specs.Job.{job_of};
 ghost use Rattle.tc_job.specs.declared.job.Job.{Job as JobParts};
 ghost use Rattle.c_meaning.specs.Small as small;
@@ -11,7 +8,6 @@ ghost use Rattle.c_tree.specs.Places.{IsProgram};
 ghost use Rattle.c_tree.specs.Reading.{IsReading};
 ghost use Rattle.c_parse.proofs.Reading.{tree_of};
 ghost use Rattle.tc_report.specs.Line.{line};
-ghost use Rattle.tc_report.specs.declared.rows.RowState.TheVariants.{Limit, Done};
 ghost use Rattle.tcrest.specs.declared.command.Command.{Command};
 ghost use Rattle.tcrest.specs.declared.command.TheConstants.{MOST_DIGITS};
 ghost use Rattle.tcrest.specs.declared.command.Command.TheVariants.{OfJob, Grid, Gen, Bench, Usage};
@@ -20,12 +16,8 @@ ghost use Rattle.job_tasks.specs.Answer.{too_long};
 ghost use Rattle.tcrest.specs.Answer.{answer, bytes_answer, usage};
 ghost use Rattle.tcrest.specs.Command.{command_of, number_in};
 ghost use Rattle.tcrest.specs.Complete.{HasCode, IsWhole};
-ghost use Rattle.tcrest.specs.Loading.{IsLoadedFor};
-ghost use Rattle.tcrest.specs.Machine.{machine_of};
 ghost use Rattle.tcrest.specs.Meanings.{program_lines};
 ghost use Rattle.tcrest.specs.Pipe.{fault_number};
-ghost use Rattle.tcrest.specs.Rows.{status_of};
-ghost use Rattle.tcrest.specs.Worked.{lone_rows};
 ghost use Rattle.tcrest.specs.declared.pipe.PipeFault.TheVariants.{OneCore};
 
 use job_tasks::MOST_BYTES;
@@ -76,27 +68,9 @@ pub fn limits()
     ensures digits { MOST_DIGITS ≡ 10 }
 {}
 
-/// The rows of a small job, computed by the checker: its task ends at cycle 17, after two transactions.
-#[tactic(auto, unfolding(crate::specs::Machine::machine_of, patmos_code::specs::Codes::code, patmos_code::specs::Decoding::bundle_at, patmos_model::specs::Flows::flowed, patmos_model::specs::Checks::fault_of, patmos_model::specs::Bundle::fetched_at, patmos_model::specs::Transaction::transaction))]
-pub fn worked_run()
-    ensures done { map (λ row. row.state) (lone_rows 17) ≡ Done 7 17 ∷ [] }
-    ensures accesses { map (λ row. row.accesses) (lone_rows 17) ≡
-        (record { cycle = 0; write = false; words = 4 } ∷ record { cycle = 6; write = false; words = 2 } ∷ []) ∷ [] }
-    ensures limit { map (λ row. row.state) (lone_rows 16) ≡ Limit ∷ [] }
-    ensures status { status_of (lone_rows 17) ≡ 0 }
-    ensures early { status_of (lone_rows 16) ≡ 3 }
-{}
-
 /// What `mean` tells of small programs: a sum, the same cut off by its bound, and an input.
 pub fn worked_meanings()
     ensures sum { program_lines 0 [] (small.sum_program 10) ≡ line (codes "core 0 mean 45") }
     ensures cut_off { program_lines 1 [] (small.sum_program 5) ≡ line (codes "core 1 mean 10 overrun") }
     ensures input { program_lines 0 (8 ∷ 9 ∷ []) small.input_program ≡ line (codes "core 0 mean 9") }
-{}
-
-/// A machine that was loaded with the cores of a job, and its numbers, is the job's machine. A law: it does
-/// nothing.
-pub fn loaded_machine_is_the_jobs()
-    ensures { (job : JobParts) (cores : List Core) (m : Machine) → IsLoadedFor job cores m
-        → at_limit m ≡ machine_of job cores }
 {}

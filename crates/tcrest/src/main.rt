@@ -12,11 +12,8 @@ mod bounds;
 mod command;
 mod laws;
 mod listing;
-mod loading;
 mod meanings;
-mod output;
 mod pipe;
-mod rows;
 #[cfg(test)]
 mod test_jobs;
 #[cfg(test)]

@@ -3,6 +3,7 @@ ghost use Rattle.c_run.specs.Reported.{slot_words};
 ghost use Rattle.c_tree.specs.Plain.{plain};
 ghost use Rattle.c_world.specs.World.{World};
 ghost use Rattle.job_tasks.specs.Coding.{bounded, shown, all_shown};
+ghost use Rattle.job_rows.specs.Rows.{output_slot};
 ghost use Rattle.tcrest.specs.Meanings as specs;
 
 use c_run::{Outcome, mean, output_of};
@@ -87,7 +88,7 @@ fn put_output(
     outcome: &Outcome,
 ) -> Result<(), OutOfMemory>
     ensures { OnOk result ((w : World) → outcome.now.stores ≡ map (slot_words w) program.now.layout
-        → text.new.items ≡ text.old.items ++ specs.outs_of core w (specs.output_slot (plain program.now.unit))) }
+        → text.new.items ≡ text.old.items ++ specs.outs_of core w (output_slot (plain program.now.unit))) }
 {
     let Some(number) = output_of(program) else {
         return Ok(());

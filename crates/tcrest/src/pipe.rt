@@ -9,10 +9,10 @@ ghost use Rattle.tc_report.specs.Report.{state_line};
 ghost use Rattle.job_tasks.specs.Coding.{runs, shown, all_shown, IsAmong};
 ghost use Rattle.tcrest.specs.PipeTold.{pipe_told, told_row};
 ghost use Rattle.tcrest.specs.Pipe as specs;
-ghost use Rattle.tcrest.specs.Rows as rows_specs;
+ghost use Rattle.job_rows.specs.Rows as rows_specs;
 
-use crate::rows::{all_running, bare_row, is_flagged, status_of};
 use c_mentions::is_alone;
+use job_rows::{all_running, bare_row, is_flagged, status_of};
 use job_tasks::{Answer, CodedTask, CoreTask, RangedJob};
 use patmos_code::Image;
 use patmos_core::CoreState;

@@ -13,7 +13,8 @@ use Rattle.sp_shape.proofs.Functions.{function_then}
 use Rattle.sp_shape.proofs.Plain.{repeat_said}
 
 -- one part, so many times
-pub iterations_formed : (n count : ℕ) (body : List Part) (p : Part) (tail : List Slots) → body ≡ p ∷ [] → tail ≡ small.again → 0 < count
+pub iterations_formed : (n count : ℕ) (body : List Part) (p : Part) (tail : List Slots) → body ≡ p ∷ [] → tail
+    ≡ small.again → 0 < count
     → part_formed n (plain_part p) ≡ true → part_formed n (plain_part (Repeat count body tail)) ≡ true
 iterations_formed n count body p tail is back some h =
     ap (part_formed n) (repeat_said (Repeat count body tail) count body tail refl)
@@ -23,7 +24,8 @@ iterations_formed n count body p tail is back some h =
     (ap is_iteration back))
 
 -- a part and the return
-pub returning_formed : (n : ℕ) (p last : Part) (function : List Part) → function ≡ p ∷ last ∷ [] → plain_part last ≡ leaves small.return
+pub returning_formed : (n : ℕ) (p last : Part) (function : List Part) → function ≡ p ∷ last ∷ [] → plain_part last
+    ≡ leaves small.return
     → part_formed n (plain_part p) ≡ true → function_formed n (parts_of function) ≡ true
 returning_formed n p last function is return h =
     ap (λ xs. function_formed n (parts_of xs)) is ∙ ap (λ q. function_formed n (part (plain_part p) (one q))) return

@@ -37,9 +37,9 @@ fn caller(alloc: Global) -> Result<List<Part>, AllocError>
 {
     let before = add(alloc, 1)?;
     let iterations = iterations(alloc)?;
-    let behind = add(alloc, 2)?;
+    let after = add(alloc, 2)?;
     let leave = leave(alloc)?;
-    Ok(List::of(vec![in alloc; before, iterations, behind, leave]?))
+    Ok(List::of(vec![in alloc; before, iterations, after, leave]?))
 }
 
 // a function that returns at once, and one that calls it, which is run

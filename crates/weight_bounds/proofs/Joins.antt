@@ -9,7 +9,8 @@ pub some_iterations : (ps : PlainParts) → 1 ≤ parts_iterations ps
 some_iterations no_part = omega arith
 some_iterations (part p rest) = omega (arith, some_iterations rest)
 
-pub joined_iterations : (xs ys : PlainParts) → parts_iterations (joined xs ys) ≡ max (parts_iterations xs) (parts_iterations ys)
+pub joined_iterations : (xs ys : PlainParts) → parts_iterations (joined xs ys)
+    ≡ max (parts_iterations xs) (parts_iterations ys)
 joined_iterations no_part ys = omega (arith, some_iterations ys)
 joined_iterations (part p xs) ys = omega (arith, joined_iterations xs ys)
 

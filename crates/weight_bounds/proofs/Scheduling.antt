@@ -26,7 +26,8 @@ past_steps = record {
   through = λ xs ys zs less fewer. omega (arith, less, fewer);
   behind = λ b xs ys less. omega (arith, less);
   left_out = λ b bs is. omega arith;
-  emptied = λ b bs. let less = without_nop_as (λ c b. bundle_past c ≤ bundle_past b) (λ b. omega arith) (λ b i is nop. omega arith) b in omega (arith, less);
+  emptied = λ b bs. let less = without_nop_as (λ c b. bundle_past c ≤ bundle_past b) (λ b. omega arith)
+      (λ b i is nop. omega arith) b in omega (arith, less);
   joined = λ a b bs busy can. omega arith;
   swapped = λ b x bs by. omega arith;
 }
@@ -34,10 +35,12 @@ past_steps = record {
 packed_past : (bs : List Slots) → bundles_past (packed bs) ≤ bundles_past bs
 packed_past bs = packed_steps (λ xs ys. bundles_past ys ≤ bundles_past xs) past_steps bs
 
-arranged_past : (held front back : List Slots) → bundles_past (packed (arranged held front back)) ≤ bundles_past (held ++ front)
+arranged_past : (held front back : List Slots) → bundles_past (packed (arranged held front back))
+    ≤ bundles_past (held ++ front)
 arranged_past held front back = arranged_steps (λ xs ys. bundles_past ys ≤ bundles_past xs) past_steps held front back
 
-past_split : (b : Slots) (bs : List Slots) → bundles_past (but_last b bs) + bundle_past (last_or b bs) ≡ bundle_past b + bundles_past bs
+past_split : (b : Slots) (bs : List Slots) → bundles_past (but_last b bs) + bundle_past (last_or b bs) ≡ bundle_past b
+    + bundles_past bs
 past_split b [] = omega arith
 past_split b (c ∷ cs) = omega (arith, past_split c cs)
 
@@ -46,15 +49,19 @@ filled_past b [] = omega arith
 filled_past b (t ∷ []) = omega arith
 filled_past b (t ∷ slot ∷ slots) = omega (arith, past_split slot slots)
 
-one_past : (bs tail : List Slots) → bundles_past (kept_by_one bs tail) + bundles_past (way_by_one bs tail) ≤ bundles_past bs + bundles_past tail
+one_past : (bs tail : List Slots) → bundles_past (kept_by_one bs tail) + bundles_past (way_by_one bs tail)
+    ≤ bundles_past bs + bundles_past tail
 one_past [] tail = omega arith
 one_past (b ∷ bs) tail =
-    elim (goes_down (b ∷ bs) tail) as (λ down. bundles_past (if down then but_last b bs else b ∷ bs) + bundles_past (if down then filled (last_or b bs) tail else tail) ≤ bundle_past b + bundles_past bs + bundles_past tail) [
+    elim (goes_down (b ∷ bs) tail) as (λ down. bundles_past (if down then but_last b bs else b ∷ bs)
+    + bundles_past (if down then filled (last_or b bs) tail else tail) ≤ bundle_past b + bundles_past bs
+    + bundles_past tail) [
       | true ↦ omega (arith, past_split b bs, filled_past (last_or b bs) tail)
       | false ↦ omega arith
     ]
 
-way_past : (n : ℕ) (bs tail : List Slots) → bundles_past (kept_after n bs tail) + bundles_past (way_after n bs tail) ≤ bundles_past bs + bundles_past tail
+way_past : (n : ℕ) (bs tail : List Slots) → bundles_past (kept_after n bs tail) + bundles_past (way_after n bs tail)
+    ≤ bundles_past bs + bundles_past tail
 way_past zero bs tail = omega arith
 way_past (suc n) bs tail = omega (arith, one_past bs tail, way_past n (kept_by_one bs tail) (way_by_one bs tail))
 
@@ -70,23 +77,35 @@ second_past i kind = let none = so i.op kind in omega (arith, none)
     so _ h = absurd (true≢false (sym h))
 
 freed_past : (tail : List Slots) → bundles_past (freed tail) ≤ bundles_past tail
-freed_past = freed_as (λ xs tail. bundles_past xs ≤ bundles_past tail) (λ tail. omega arith) (λ flow slot slots i out. omega (arith, second_past i out.kind, past_split slot slots))
+freed_past = freed_as (λ xs tail. bundles_past xs ≤ bundles_past tail) (λ tail. omega arith)
+    (λ flow slot slots i out. omega (arith, second_past i out.kind, past_split slot slots))
 
-slots_past : (bs tail : List Slots) → bundles_past (kept bs tail) + bundles_past (way bs tail) ≤ bundles_past bs + bundles_past tail
+slots_past : (bs tail : List Slots) → bundles_past (kept bs tail) + bundles_past (way bs tail) ≤ bundles_past bs
+    + bundles_past tail
 slots_past bs tail = omega (arith, way_past MOST_SLOTS bs (freed tail), freed_past tail)
 
-iteration_past : (before tail : List Slots) → bundles_past (iteration_packed before tail) ≤ bundles_past before + bundles_past tail
+iteration_past : (before tail : List Slots) → bundles_past (iteration_packed before tail) ≤ bundles_past before
+    + bundles_past tail
 iteration_past before tail =
     let front = before_branch tail in
     let back = from_branch tail in
     let p = packed (arranged before front back) in
-    omega (arith, past_append (kept p back) (way p back), slots_past p back, arranged_past before front back, past_append before front, past_append front back, ap bundles_past (tail_split tail))
+    omega (
+      arith,
+      past_append (kept p back) (way p back),
+      slots_past p back,
+      arranged_past before front back,
+      past_append before front,
+      past_append front back,
+      ap bundles_past (tail_split tail),
+    )
 
 spaced_past : (bs : List Slots) → bundles_past (spaced bs) ≤ bundles_past bs
 spaced_past [] = omega arith
 spaced_past (b ∷ bs) = by (is_awaited b bs) (spaced_past bs)
   where
-    by : (late : Bool) → bundles_past (spaced bs) ≤ bundles_past bs → bundles_past ((if late then b ∷ idle ∷ [] else b ∷ []) ++ spaced bs) ≤ bundles_past (b ∷ bs)
+    by : (late : Bool) → bundles_past (spaced bs) ≤ bundles_past bs
+        → bundles_past ((if late then b ∷ idle ∷ [] else b ∷ []) ++ spaced bs) ≤ bundles_past (b ∷ bs)
     by true others = omega (arith, others)
     by false others = omega (arith, others)
 
@@ -105,16 +124,26 @@ record Straight (bs : List Slots) (rest : PlainParts) : Type 0 where
 
 straights_are : (bs : List Slots) (rest : PlainParts) → Straight bs rest
 straights_are [] rest = record { iterations = omega arith; calls = omega arith; past = omega arith }
-straights_are (b ∷ bs) rest = record { iterations = omega (arith, some_iterations rest); calls = omega arith; past = omega arith }
+straights_are (b ∷ bs) rest =
+    record { iterations = omega (arith, some_iterations rest); calls = omega arith; past = omega arith }
 
 merged_keeps : (held : List Slots) (ps : PlainParts) → Keeps ps (parts_merged held ps) held (left_over held ps)
 merged_keeps held no_part = record { iterations = omega arith; calls = omega arith; past = omega arith }
 merged_keeps held (part (straight bs) rest) =
     let a = merged_keeps (held ++ bs) rest in
-    record { iterations = omega (arith, a.iterations); calls = omega (arith, a.calls); past = omega (arith, a.past, past_append held bs) }
+    record {
+      iterations = omega (arith, a.iterations);
+      calls = omega (arith, a.calls);
+      past = omega (
+        arith,
+        a.past,
+        past_append held bs,
+      );
+    }
 merged_keeps held (part (repeats count body tail) rest) =
     let left = left_over [] body in
-    let s = straights_are (packed held) (part (repeats count (parts_merged [] body) (iteration_packed left tail)) (parts_merged [] rest)) in
+    let s = straights_are (packed held) (part (repeats count (parts_merged [] body) (iteration_packed left tail))
+    (parts_merged [] rest)) in
     let a = merged_keeps [] body in
     let b = merged_keeps [] rest in
     let times = mul-le-mul_left count a.iterations in
@@ -154,14 +183,16 @@ function_keeps ps =
     let a = merged_keeps [] ps in
     let s = straights_are (packed left) no_part in
     record {
-      iterations = omega (arith, joined_iterations (parts_merged [] ps) last, a.iterations, s.iterations, some_iterations ps);
+      iterations =
+          omega (arith, joined_iterations (parts_merged [] ps) last, a.iterations, s.iterations, some_iterations ps);
       calls = omega (arith, joined_calls (parts_merged [] ps) last, a.calls, s.calls);
       past = omega (arith, joined_past (parts_merged [] ps) last, a.past, s.past, packed_past left);
     }
 
 mutual
   part_placed_iterations : (p : PlainPart) → part_iterations (part_placed p) ≤ part_iterations p
-  part_placed_iterations (repeats count body tail) = let times = mul-le-mul_left count (parts_placed_keep body).iterations in omega (arith, times)
+  part_placed_iterations (repeats count body tail) =
+      let times = mul-le-mul_left count (parts_placed_keep body).iterations in omega (arith, times)
   part_placed_iterations _ = omega arith
 
   part_placed_calls : (p : PlainPart) → part_calls (part_placed p) ≤ part_calls p
@@ -188,4 +219,8 @@ pub scheduled_has_no_more : (ps : PlainParts) → IsNoMore ps (parts_placed (fun
 scheduled_has_no_more ps =
     let a = function_keeps ps in
     let b = parts_placed_keep (function_merged ps) in
-    record { iterations = omega (arith, a.iterations, b.iterations); calls = omega (arith, a.calls, b.calls); past = omega (arith, a.past, b.past) }
+    record {
+      iterations = omega (arith, a.iterations, b.iterations);
+      calls = omega (arith, a.calls, b.calls);
+      past = omega (arith, a.past, b.past);
+    }

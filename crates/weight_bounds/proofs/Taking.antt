@@ -37,7 +37,8 @@ mutual
   stmt_same o (masks slot e) = expr_same o e
   stmt_same o (writes mask target e) = omega (arith, target_same o target, expr_same o e)
   stmt_same o (calls mask k args result) = args_same o args
-  stmt_same o (transfers mask core source target count) = omega (arith, expr_same o source, expr_same o target, expr_same o count)
+  stmt_same o (transfers mask core source target count) =
+      omega (arith, expr_same o source, expr_same o target, expr_same o count)
   stmt_same o (overruns mask e) = expr_same o e
   stmt_same o (iterations count body) = ap (λ n. max 1 (count * n)) (stmts_same o body)
 
@@ -63,38 +64,50 @@ record IsWithin (most count : ℕ) (ts : PlainStmts) : Type 0 where
 begun_within : (at n : ℕ) (args : List PlainSp) → IsWithin (args_iterations args) 0 (begun_words at n args)
 begun_within at zero [] = record { iterations = omega arith; calls = omega arith }
 begun_within at zero (e ∷ args) = record { iterations = omega (arith, some_expr e); calls = omega arith }
-begun_within at (suc n) [] = let x = begun_within (at + 1) n [] in record { iterations = omega (arith, x.iterations); calls = omega (arith, x.calls) }
-begun_within at (suc n) (e ∷ args) = let x = begun_within (at + 1) n args in record { iterations = omega (arith, x.iterations); calls = omega (arith, x.calls) }
+begun_within at (suc n) [] = let x = begun_within (at + 1) n [] in record {
+  iterations = omega (arith, x.iterations);
+  calls = omega (arith, x.calls);
+}
+begun_within at (suc n) (e ∷ args) = let x = begun_within (at + 1) n args in
+    record { iterations = omega (arith, x.iterations); calls = omega (arith, x.calls) }
 
 -- the arguments with the mask, and a body without its first statement or its last
-handed_within : (n : ℕ) (tests : Bool) (mask : ℕ) (args : List PlainSp) → args_iterations (handed n (call_mask tests mask) args) ≤ args_iterations args
+handed_within : (n : ℕ) (tests : Bool) (mask : ℕ) (args : List PlainSp)
+    → args_iterations (handed n (call_mask tests mask) args) ≤ args_iterations args
 handed_within zero true mask args = omega (arith, some_args args)
 handed_within zero false mask args = omega (arith, some_args args)
 handed_within (suc n) tests mask [] = omega (arith, handed_within n tests mask [])
 handed_within (suc n) tests mask (e ∷ args) = omega (arith, handed_within n tests mask args)
 
-entered_within : (tests : Bool) (ts : PlainStmts) → IsWithin (stmts_iterations ts) (stmts_call_count ts) (entered tests ts)
+entered_within : (tests : Bool) (ts : PlainStmts) → IsWithin (stmts_iterations ts) (stmts_call_count ts)
+    (entered tests ts)
 entered_within tests ts =
-    entered_so (IsWithin (stmts_iterations ts) (stmts_call_count ts)) (λ t rest h. record { iterations = omega (arith, h.iterations); calls = omega (arith, h.calls) })
+    entered_so (IsWithin (stmts_iterations ts) (stmts_call_count ts))
+    (λ t rest h. record { iterations = omega (arith, h.iterations); calls = omega (arith, h.calls) })
     tests ts (record { iterations = omega arith; calls = omega arith })
 
 front_within : (ts : PlainStmts) → IsWithin (stmts_iterations ts) (stmts_call_count ts) (front ts)
 front_within no_stmt = record { iterations = omega arith; calls = omega arith }
 front_within (stmt t no_stmt) = record { iterations = omega arith; calls = omega arith }
-front_within (stmt t (stmt s rest)) = let x = front_within (stmt s rest) in record { iterations = omega (arith, x.iterations); calls = omega (arith, x.calls) }
+front_within (stmt t (stmt s rest)) = let x = front_within (stmt s rest) in
+    record { iterations = omega (arith, x.iterations); calls = omega (arith, x.calls) }
 
 shortened_leaf : (f : PlainFunction) → IsLeaf f → IsLeaf (shortened f)
 shortened_leaf f leaf = by (ends_so f.result false f.body)
   where
     by : (b : Bool) → IsLeaf (record f { body = if b then front f.body else f.body })
-    by true = let x = front_within f.body in record { iterations = omega (arith, x.iterations, leaf.iterations); calls = omega (arith, x.calls, leaf.calls) }
+    by true = let x = front_within f.body in record {
+      iterations = omega (arith, x.iterations, leaf.iterations);
+      calls = omega (arith, x.calls, leaf.calls);
+    }
     by false = record { iterations = leaf.iterations; calls = leaf.calls }
 
 given_within : (mask : ℕ) (result : Option ℕ) (word : ℕ) → IsWithin 1 0 (given_set mask result word)
 given_within mask None word = record { iterations = omega arith; calls = omega arith }
 given_within mask (Some slot) word = record { iterations = omega arith; calls = omega arith }
 
-statements_within : (o : ℕ) (f : PlainFunction) (mask : ℕ) (args : List PlainSp) (result : Option ℕ) → IsLeaf f → IsWithin (args_iterations args) 0 (call_statements o f mask args result)
+statements_within : (o : ℕ) (f : PlainFunction) (mask : ℕ) (args : List PlainSp) (result : Option ℕ) → IsLeaf f
+    → IsWithin (args_iterations args) 0 (call_statements o f mask args result)
 statements_within o f mask args result leaf =
     let tests = tests_mask f.mask f.body in
     let words = handed f.mask (call_mask tests mask) args in
@@ -107,35 +120,65 @@ statements_within o f mask args result leaf =
     let b = given_within mask result (o + f.result) in
     let e = entered_within tests f.body in
     record {
-      iterations = omega (arith, joined_iterations begun last, joined_iterations own given, stmts_same o body, leaf.iterations, a.iterations, b.iterations, e.iterations, handed_within f.mask tests mask args, some_args args);
-      calls = omega (arith, joined_calls begun last, joined_calls own given, calls_same o body, leaf.calls, a.calls, b.calls, e.calls);
+      iterations = omega (
+        arith,
+        joined_iterations begun last,
+        joined_iterations own given,
+        stmts_same o body,
+        leaf.iterations,
+        a.iterations,
+        b.iterations,
+        e.iterations,
+        handed_within f.mask tests mask args,
+        some_args args,
+      );
+      calls = omega (
+        arith,
+        joined_calls begun last,
+        joined_calls own given,
+        calls_same o body,
+        leaf.calls,
+        a.calls,
+        b.calls,
+        e.calls,
+      );
     }
 
 -- ---- statements
 
 module _ (c : PlainCaller) (leaves : (k : ℕ) → k < length c.functions → IsLeaf (callee c k)) where
-  call_within : (depth : ℕ) (r : Room) (mask k : ℕ) (args : List PlainSp) (result : Option ℕ) → IsWithin (args_iterations args) 1 (call_taken c depth r mask k args result).body
+  call_within : (depth : ℕ) (r : Room) (mask k : ℕ) (args : List PlainSp) (result : Option ℕ)
+      → IsWithin (args_iterations args) 1 (call_taken c depth r mask k args result).body
   call_within depth r mask k args result = by (is_taken c depth r k more args) refl
     where
       more : PlainStmts
       more = call_statements c.words (shortened (callee c k)) mask args result
 
       chosen : Bool → Taken
-      chosen b = if b then record { body = more; room = room_after c depth r (callee c k) more args } else record { body = one (calls mask k args result); room = r }
+      chosen b = if b then record { body = more; room = room_after c depth r (callee c k) more args } else record {
+        body = one (calls mask k args result);
+        room = r;
+      }
 
       by : (b : Bool) → is_taken c depth r k more args ≡ b → IsWithin (args_iterations args) 1 (chosen b).body
       by true is =
-          let may = (and_parts (may_take c depth k args) (has_room c r (growth more args) (room_after c depth r (callee c k) more args)) is).0 in
+          let may = (and_parts (may_take c depth k args) (has_room c r (growth more args)
+          (room_after c depth r (callee c k) more args)) is).0 in
           let there = (and_parts (nat_lt k (length c.functions)) _ (and_parts (nat_lt 0 depth) _ may).1).0 in
-          let x = statements_within c.words (shortened (callee c k)) mask args result (shortened_leaf (callee c k) (leaves k (ltb-true k (length c.functions) there))) in
+          let x = statements_within c.words (shortened (callee c k)) mask args result (shortened_leaf (callee c k)
+          (leaves k (ltb-true k (length c.functions) there))) in
           record { iterations = x.iterations; calls = omega (arith, x.calls) }
-      by false is = let some = some_stmt (calls mask k args result) in record { iterations = omega (arith, some); calls = omega arith }
+      by false is = let some = some_stmt (calls mask k args result) in record {
+        iterations = omega (arith, some);
+        calls = omega arith;
+      }
 
   kept_within : (t : PlainStmt) → IsWithin (stmt_iterations t) (stmt_call_count t) (one t)
   kept_within t = record { iterations = omega (arith, some_stmt t); calls = omega arith }
 
   mutual
-    stmt_within : (depth : ℕ) (r : Room) (t : PlainStmt) → IsWithin (stmt_iterations t) (stmt_call_count t) (stmt_taken c depth r t).body
+    stmt_within : (depth : ℕ) (r : Room) (t : PlainStmt) → IsWithin (stmt_iterations t) (stmt_call_count t)
+        (stmt_taken c depth r t).body
     stmt_within depth r (calls mask k args result) = call_within depth r mask k args result
     stmt_within depth r (iterations count body) =
         let x = stmts_within (depth + 1) r body in
@@ -143,7 +186,8 @@ module _ (c : PlainCaller) (leaves : (k : ℕ) → k < length c.functions → Is
         record { iterations = omega (arith, times); calls = omega (arith, x.calls) }
     stmt_within depth r other = kept_within other
 
-    stmts_within : (depth : ℕ) (r : Room) (ts : PlainStmts) → IsWithin (stmts_iterations ts) (stmts_call_count ts) (stmts_taken c depth r ts).body
+    stmts_within : (depth : ℕ) (r : Room) (ts : PlainStmts) → IsWithin (stmts_iterations ts) (stmts_call_count ts)
+        (stmts_taken c depth r ts).body
     stmts_within depth r no_stmt = record { iterations = omega arith; calls = omega arith }
     stmts_within depth r (stmt t rest) =
         let first = stmt_taken c depth r t in
@@ -157,7 +201,9 @@ module _ (c : PlainCaller) (leaves : (k : ℕ) → k < length c.functions → Is
 
 -- ---- functions
 
-function_no_more : (fs : List PlainFunction) (most frame : ℕ) (f : PlainFunction) → ((k : ℕ) → k < length fs → IsLeaf (slice_index_or fs k no_function)) → HasNoMore f (function_taken fs most frame f)
+function_no_more : (fs : List PlainFunction) (most frame : ℕ) (f : PlainFunction)
+    → ((k : ℕ) → k < length fs → IsLeaf (slice_index_or fs k no_function))
+    → HasNoMore f (function_taken fs most frame f)
 function_no_more fs most frame f leaves = by (is_whole (length fs) f)
   where
     by : (b : Bool) → HasNoMore f (if b then grown f (body_taken fs most frame f) else f)
@@ -167,25 +213,34 @@ function_no_more fs most frame f leaves = by (is_whole (length fs) f)
     by false = record { iterations = omega arith; calls = omega arith }
 
 pub leaf_of : (f g : PlainFunction) → HasNoMore f g → IsLeaf f → IsLeaf g
-leaf_of f g less leaf = record { iterations = omega (arith, less.iterations, leaf.iterations); calls = omega (arith, less.calls, leaf.calls) }
+leaf_of f g less leaf = record {
+  iterations = omega (arith, less.iterations, leaf.iterations);
+  calls = omega (arith, less.calls, leaf.calls);
+}
 
 module _ (most frames : List ℕ) (fs : List PlainFunction) where
-  next_no_more : (n k : ℕ) → k < n → AreLeaves (first_taken most frames fs k) k → HasNoMore (slice_index_or fs k no_function) (slice_index_or (first_taken most frames fs n) k no_function)
+  next_no_more : (n k : ℕ) → k < n → AreLeaves (first_taken most frames fs k) k
+      → HasNoMore (slice_index_or fs k no_function) (slice_index_or (first_taken most frames fs n) k no_function)
   next_no_more n k below leaves =
       let before = first_taken most frames fs k in
       subst (HasNoMore (slice_index_or fs k no_function)) (sym (first_at most frames fs n k below))
-      (function_no_more before (slice_index most k) (slice_index frames k) (slice_index_or fs k no_function) (λ j less. leaves j (omega (arith, less, first_length most frames fs k))))
+      (function_no_more before (slice_index most k) (slice_index frames k) (slice_index_or fs k no_function)
+      (λ j less. leaves j (omega (arith, less, first_length most frames fs k))))
 
   leaves_stay : (n : ℕ) → AreLeaves fs n → AreLeaves (first_taken most frames fs n) n
   leaves_stay zero leaves k below = absurd (omega (arith, below))
   leaves_stay (suc n) leaves k below = by (leaves_stay n (λ j less. leaves j (omega (arith, less)))) (cases_lt k n)
     where
-      by : AreLeaves (first_taken most frames fs n) n → (k < n) ⊎ (n ≤ k) → IsLeaf (slice_index_or (first_taken most frames fs (suc n)) k no_function)
-      by earlier (inl less) = subst IsLeaf (first_at most frames fs n k less ∙ sym (first_at most frames fs (suc n) k below)) (earlier k less)
+      by : AreLeaves (first_taken most frames fs n) n → (k < n) ⊎ (n ≤ k)
+          → IsLeaf (slice_index_or (first_taken most frames fs (suc n)) k no_function)
+      by earlier (inl less) = subst IsLeaf (first_at most frames fs n k less
+          ∙ sym (first_at most frames fs (suc n) k below)) (earlier k less)
       by earlier (inr past) =
           let here : k ≡ n = omega (arith, below, past) in
           leaf_of (slice_index_or fs k no_function) (slice_index_or (first_taken most frames fs (suc n)) k no_function)
-          (next_no_more (suc n) k below (subst (λ m. AreLeaves (first_taken most frames fs m) m) (sym here) earlier)) (leaves k below)
+          (next_no_more (suc n) k below (subst (λ m. AreLeaves (first_taken most frames fs m) m) (sym here) earlier))
+          (leaves k below)
 
-  pub taken_no_more : (n k : ℕ) → k < n → AreLeaves fs k → HasNoMore (slice_index_or fs k no_function) (slice_index_or (first_taken most frames fs n) k no_function)
+  pub taken_no_more : (n k : ℕ) → k < n → AreLeaves fs k → HasNoMore (slice_index_or fs k no_function) (slice_index_or
+      (first_taken most frames fs n) k no_function)
   taken_no_more n k below leaves = next_no_more n k below (leaves_stay k leaves)

@@ -27,7 +27,8 @@ pub some_stmts : (ts : PlainStmts) → 1 ≤ stmts_iterations ts
 some_stmts no_stmt = omega arith
 some_stmts (stmt t rest) = omega (arith, some_stmts rest)
 
-pub joined_iterations : (xs ys : PlainStmts) → stmts_iterations (joined xs ys) ≡ max (stmts_iterations xs) (stmts_iterations ys)
+pub joined_iterations : (xs ys : PlainStmts) → stmts_iterations (joined xs ys)
+    ≡ max (stmts_iterations xs) (stmts_iterations ys)
 joined_iterations no_stmt ys = omega (arith, some_stmts ys)
 joined_iterations (stmt t xs) ys = omega (arith, joined_iterations xs ys)
 

@@ -8,4 +8,5 @@ returns-clause-correct c =
 
 pub returns-clause-fault : goal.returns-clause-fault
 returns-clause-fault c = λ fault.
-    fault_exactly c.args.job.now c.first_fault.result fault c.first_fault.ensures.bounded.least c.first_fault.ensures.first
+    fault_exactly c.args.job.now c.first_fault.result fault c.first_fault.ensures.bounded.least
+    c.first_fault.ensures.first

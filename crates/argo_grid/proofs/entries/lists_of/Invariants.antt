@@ -7,4 +7,5 @@ use Rattle.argo_grid.proofs.entries.lists_of.Given as goal
 
 abbrev pub invariant-loop-item : goal.invariant-loop-item
 invariant-loop-item l =
-    behind l.lists.items (each_item integers_at (items_view (drop l.item-index l.items))) ≡ each_item integers_at (items_view l.items)
+    behind l.lists.items (each_item integers_at (items_view (drop l.item-index l.items)))
+    ≡ each_item integers_at (items_view l.items)

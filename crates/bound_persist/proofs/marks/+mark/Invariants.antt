@@ -9,7 +9,8 @@ abbrev pub invariant-mark_parts-loop-part : goal.invariant-mark_parts-loop-part
 invariant-mark_parts-loop-part g l = record {
   marks : (j : ℕ) → (is_marked l.marks.set j || parts_reach (λ k. k == j) (parts_of (drop l.part-index l.parts)))
       ≡ (is_marked l.initial.marks.set j || parts_reach (λ k. k == j) (parts_of l.parts));
-  steps : l.steps + parts_nodes (parts_of (drop l.part-index l.parts)) ≤ l.initial.steps + parts_nodes (parts_of l.parts);
+  steps : l.steps + parts_nodes (parts_of (drop l.part-index l.parts)) ≤ l.initial.steps
+      + parts_nodes (parts_of l.parts);
   forward : l.initial.steps ≤ l.steps;
 }
 

@@ -18,7 +18,8 @@ returns-clause-exact g c =
     λ far is.
     let place = c.args.place.now in
     let same = one_gap (is_slot_start place.table place.slot place.core) c.gap_of.result far c.gap_of.ensures.gap is in
-    let here = once_is c.args.shape.now c.as_slice-functions.result.now (c.gap_of.result + c.from.result - 1) c.mark_all-marks.result.set c.sums_of-sums.result
+    let here = once_is c.args.shape.now c.as_slice-functions.result.now (c.gap_of.result + c.from.result - 1)
+    c.mark_all-marks.result.set c.sums_of-sums.result
     c.as_slice-functions.ensures c.mark_all-marks.ensures.marks c.sums_of-sums.ensures.sums (sym c.if-not-fit.ensures)
     c.plus.result c.run_of_function.result c.plus.ensures c.run_of_function.ensures.run in
     c.within.ensures (persist (far + place.slot - 1) (plain_shape c.args.shape.now))
@@ -34,7 +35,8 @@ returns-clause-number g c =
 pub returns-clause-tighter : goal.returns-clause-tighter
 returns-clause-tighter g c =
     let place = c.args.place.now in
-    persist_less (gap place.table place.slot place.core + place.slot - 1) (plain_shape c.args.shape.now) c.requires.formed
+    persist_less (gap place.table place.slot place.core + place.slot - 1) (plain_shape c.args.shape.now)
+    c.requires.formed
 
 -- it does not
 
@@ -43,8 +45,10 @@ returns-then-not-fit-clause-exact g c =
     λ far is.
     let place = c.args.place.now in
     let same = one_gap (is_slot_start place.table place.slot place.core) c.gap_of.result far c.gap_of.ensures.gap is in
-    let here = else_is c.args.shape.now c.as_slice-functions.result.now (c.gap_of.result + c.from.result - 1) c.mark_all-marks.result.set c.sums_of-sums.result
-    c.as_slice-functions.ensures c.mark_all-marks.ensures.marks c.sums_of-sums.ensures.sums (sym c.if-not-fit.ensures) in
+    let here = else_is c.args.shape.now c.as_slice-functions.result.now (c.gap_of.result + c.from.result - 1)
+    c.mark_all-marks.result.set c.sums_of-sums.result
+    c.as_slice-functions.ensures c.mark_all-marks.ensures.marks c.sums_of-sums.ensures.sums
+    (sym c.if-not-fit.ensures) in
     subst (Answers c.bound.result)
     (ap (λ n. shape_bound (n + place.slot - 1) (plain_shape c.args.shape.now)) (sym same)
     ∙ ap (λ n. shape_bound (c.gap_of.result + n - 1) (plain_shape c.args.shape.now)) (sym c.from.ensures)
@@ -61,4 +65,5 @@ returns-then-not-fit-clause-number g c =
 pub returns-then-not-fit-clause-tighter : goal.returns-then-not-fit-clause-tighter
 returns-then-not-fit-clause-tighter g c =
     let place = c.args.place.now in
-    persist_less (gap place.table place.slot place.core + place.slot - 1) (plain_shape c.args.shape.now) c.requires.formed
+    persist_less (gap place.table place.slot place.core + place.slot - 1) (plain_shape c.args.shape.now)
+    c.requires.formed

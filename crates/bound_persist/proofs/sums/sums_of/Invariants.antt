@@ -10,6 +10,7 @@ abbrev pub invariant-loop-number : goal.invariant-loop-number
 invariant-loop-number g l = record {
   few : l.sums.count ≤ l.number;
   sums : AreSums (functions_of l.functions) l.each (picked (is_marked l.marks.set) l.number) l.sums;
-  steps : l.steps + functions_nodes (functions_of (drop l.number l.functions)) ≤ l.initial.steps + functions_nodes (functions_of l.functions);
+  steps : l.steps + functions_nodes (functions_of (drop l.number l.functions)) ≤ l.initial.steps
+      + functions_nodes (functions_of l.functions);
   forward : l.initial.steps ≤ l.steps;
 }

@@ -7,7 +7,9 @@ use Rattle.bundle_sched.proofs.packing.+packed.Given as goal
 
 abbrev pub invariant-parts_packed-loop-part : goal.invariant-parts_packed-loop-part
 invariant-parts_packed-loop-part l = record {
-  parts : joined (parts_of l.list.items) (parts_merged l.held.items (parts_of (drop l.part-index l.parts))) ≡ parts_merged l.initial.held.items (parts_of l.parts);
+  parts : joined (parts_of l.list.items) (parts_merged l.held.items (parts_of (drop l.part-index l.parts)))
+      ≡ parts_merged l.initial.held.items (parts_of l.parts);
   legal : parts_legal (parts_of (drop l.part-index l.parts)) ≡ parts_legal (parts_of l.parts);
-  left : left_over l.held.items (parts_of (drop l.part-index l.parts)) ≡ left_over l.initial.held.items (parts_of l.parts);
+  left : left_over l.held.items (parts_of (drop l.part-index l.parts))
+      ≡ left_over l.initial.held.items (parts_of l.parts);
 }

@@ -7,7 +7,8 @@ use Rattle.bundle_sched.proofs.packing.function_packed.Goals as goal
 pub returns-clause-parts : goal.returns-clause-parts
 returns-clause-parts c =
     ap parts_of c.of.ensures
-    ∙ function_done c.in_ok-list.list.items c.push_held.new.out.items c.parts_packed.new.held.items (parts_of c.args.parts.now)
+    ∙ function_done c.in_ok-list.list.items c.push_held.new.out.items c.parts_packed.new.held.items
+    (parts_of c.args.parts.now)
     (c.in_ok-list.ensures.parts ∙ ap (λ h. parts_merged h (parts_of c.args.parts.now)) c.new-held.ensures.items)
     (c.in_ok-list.ensures.left ∙ ap (λ h. left_over h (parts_of c.args.parts.now)) c.new-held.ensures.items)
     c.in_ok-push_held.ensures.out

@@ -5,6 +5,8 @@ use Rattle.bundle_sched.proofs.slots.way.Given as goal
 
 abbrev pub invariant-loop-filled : goal.invariant-loop-filled
 invariant-loop-filled l = record {
-  kept : kept_after (MOST_SLOTS - l.filled) l.bundles.items l.slots.items ≡ kept_after MOST_SLOTS l.initial.bundles.items l.initial.slots.items;
-  way : way_after (MOST_SLOTS - l.filled) l.bundles.items l.slots.items ≡ way_after MOST_SLOTS l.initial.bundles.items l.initial.slots.items;
+  kept : kept_after (MOST_SLOTS - l.filled) l.bundles.items l.slots.items
+      ≡ kept_after MOST_SLOTS l.initial.bundles.items l.initial.slots.items;
+  way : way_after (MOST_SLOTS - l.filled) l.bundles.items l.slots.items
+      ≡ way_after MOST_SLOTS l.initial.bundles.items l.initial.slots.items;
 }

@@ -9,7 +9,8 @@ use Rattle.c_check.proofs.expressions.+expression.Goals as goal
 
 pub steps-loop-step-preserved : goal.steps-loop-step-preserved
 steps-loop-step-preserved t c =
-    let next = chain_next c.loop-step.walk.least (names_of c.args.names.now) c.loop-step.walk.at c.args.steps.now c.loop-step.step-index c.step-item.result
+    let next = chain_next c.loop-step.walk.least (names_of c.args.names.now) c.loop-step.walk.at c.args.steps.now
+    c.loop-step.step-index c.step-item.result
     (omega arith) c.step-item.is in
     record { at = grind (arith, common_steps); least = grind (arith, next) }
 

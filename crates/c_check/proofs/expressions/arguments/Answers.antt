@@ -6,6 +6,15 @@ use Rattle.c_check.proofs.expressions.arguments.Goals as goal
 
 pub loop-e-preserved : goal.loop-e-preserved
 loop-e-preserved c =
-    let next = args_next c.loop-e.walk.least (names_of c.args.names.now) c.loop-e.walk.at c.args.args.now c.loop-e.e-index c.e-item.result
+    let next = args_next c.loop-e.walk.least (names_of c.args.names.now) c.loop-e.walk.at c.args.args.now
+    c.loop-e.e-index c.e-item.result
     (omega arith) c.e-item.is in
-    record { at = grind (arith, common_steps); least = cc (next, c.in_ok-argument.ensures.at, c.in_ok-argument.ensures.least, c.loop-e.invariant.least) }
+    record {
+      at = grind (arith, common_steps);
+      least = cc (
+        next,
+        c.in_ok-argument.ensures.at,
+        c.in_ok-argument.ensures.least,
+        c.loop-e.invariant.least,
+      );
+    }

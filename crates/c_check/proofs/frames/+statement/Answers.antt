@@ -22,7 +22,8 @@ stmt-returns-in-None t c =
 pub stmt-returns-in-Some : goal.stmt-returns-in-Some
 unfolding stmt_frame otherwise_frame
 stmt-returns-in-Some t c =
-    let whole : stmt_frame (plain_stmt c.args.s.now) ≡ arms_frame (arms_of c.in-If.arms) + block_frame (block_of c.in-Some.body) =
+    let whole : stmt_frame (plain_stmt c.args.s.now) ≡ arms_frame (arms_of c.in-If.arms)
+    + block_frame (block_of c.in-Some.body) =
     ap (λ s. stmt_frame (plain_stmt s)) c.in-If.is ∙ ap stmt_frame (plain_if _ _)
     ∙ ap (λ o. arms_frame (arms_of c.in-If.arms) + otherwise_frame (otherwise_of o)) c.in-Some.is in
     let arms : c.branches-total.result ≡ capped (arms_frame (arms_of c.in-If.arms)) =
@@ -42,10 +43,12 @@ stmt-returns-in-Loop t c =
 
 pub block-returns : goal.block-returns
 block-returns t c =
-    c.loop-s.invariant ∙ ap (λ xs. capped (sum_by statement_frame xs)) (take_all c.loop-s.s-index c.args.body.now c.loop-s-test.false)
+    c.loop-s.invariant ∙ ap (λ xs. capped (sum_by statement_frame xs)) (take_all c.loop-s.s-index c.args.body.now
+    c.loop-s-test.false)
     ∙ ap (λ n. capped n) (sym (block_framed c.args.body.now))
 
 pub branches-returns : goal.branches-returns
 branches-returns t c =
-    c.loop-arm.invariant ∙ ap (λ xs. capped (sum_by arm_frame xs)) (take_all c.loop-arm.arm-index c.args.arms.now c.loop-arm-test.false)
+    c.loop-arm.invariant ∙ ap (λ xs. capped (sum_by arm_frame xs)) (take_all c.loop-arm.arm-index c.args.arms.now
+    c.loop-arm-test.false)
     ∙ ap (λ n. capped n) (sym (arms_framed c.args.arms.now))

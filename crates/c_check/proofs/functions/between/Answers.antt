@@ -9,4 +9,9 @@ returns-clause-at c =
     let same = ap length c.as_slice-2.ensures in
     let some : 0 < length c.args.f.now.parameters = grind (arith, c.if-is_empty.ensures, same) in
     let passed = ap (sum_by parameter_size) c.as_slice.ensures in
-    omega (arith, list_sized c.args.f.now.void_word c.args.f.now.parameters c.if-f.false some, passed, c.in_ok-parameters.ensures.at)
+    omega (
+      arith,
+      list_sized c.args.f.now.void_word c.args.f.now.parameters c.if-f.false some,
+      passed,
+      c.in_ok-parameters.ensures.at,
+    )

@@ -11,5 +11,6 @@ invariant-loop-p l = record {
   at : l.walk.at ≡ l.initial.walk.at + sum_by parameter_size (take l.p-index l.list);
   least : least_with l.walk.least (parameters_faults l.outer (names_of l.names) l.walk.at (drop l.p-index l.list))
       ≡ least_with l.initial.walk.least (parameters_faults l.outer (names_of l.initial.names) l.initial.walk.at l.list);
-  names : with_parameters (names_of l.names) (drop l.p-index l.list) ≡ with_parameters (names_of l.initial.names) l.list;
+  names : with_parameters (names_of l.names) (drop l.p-index l.list)
+      ≡ with_parameters (names_of l.initial.names) l.list;
 }

@@ -14,7 +14,8 @@ use Rattle.c_compile.proofs.code.code_of.Goals as goal
 
 pub schedule-requires-clause-slots : goal.schedule-requires-clause-slots
 schedule-requires-clause-slots c =
-    let count = ap (λ (s : PlainShape). length s.functions) c.in_ok-shape.ensures.is ∙ codes_length (plain_unit c.args.unit.now).functions in
+    let count = ap (λ (s : PlainShape). length s.functions) c.in_ok-shape.ensures.is
+    ∙ codes_length (plain_unit c.args.unit.now).functions in
     λ k less. c.in_ok-shape.ensures.slots k (subst (λ n. k < n) count less)
 
 pub returns-clause-code : goal.returns-clause-code
@@ -22,7 +23,8 @@ returns-clause-code c =
     let u = plain_unit c.args.unit.now in
     let shape = c.in_ok-shape-2.shape in
     let is : plain_shape shape ≡ code_of u = c.in_ok-shape-2.ensures.is ∙ ap scheduled c.in_ok-shape.ensures.is in
-    let fit : Fit (plain_shape shape) = λ k less. c.in_ok-image.ensures.fit k (subst (λ n. k < n) (functions_count shape.functions) less) in
+    let fit : Fit (plain_shape shape) =
+    λ k less. c.in_ok-image.ensures.fit k (subst (λ n. k < n) (functions_count shape.functions) less) in
     let initial : Each IsWord u.initial = search rules in
     record {
       formed = subst (λ s. is_formed s ≡ true) is c.in_ok-shape-2.ensures.formed;
@@ -37,5 +39,7 @@ returns-clause-preserves c =
     let shape = c.in_ok-shape-2.shape in
     let is : plain_shape shape ≡ code_of u = c.in_ok-shape-2.ensures.is ∙ ap scheduled c.in_ok-shape.ensures.is in
     let formed = subst (λ s. is_formed s ≡ true) is c.in_ok-shape-2.ensures.formed in
-    let fit : Fit (plain_shape shape) = λ k less. c.in_ok-image.ensures.fit k (subst (λ n. k < n) (functions_count shape.functions) less) in
-    λ input shared comm words. carried_out u c.requires.formed formed c.requires.fits (subst Fit is fit) input shared comm words
+    let fit : Fit (plain_shape shape) =
+    λ k less. c.in_ok-image.ensures.fit k (subst (λ n. k < n) (functions_count shape.functions) less) in
+    λ input shared comm words. carried_out u c.requires.formed formed c.requires.fits (subst Fit is fit) input
+    shared comm words

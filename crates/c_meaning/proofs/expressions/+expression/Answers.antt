@@ -14,7 +14,8 @@ expression-returns-in-Name-clause-unsigned t c =
 
 pub expression-returns-in_ok-named-in-Element-clause-value : goal.expression-returns-in_ok-named-in-Element-clause-value
 expression-returns-in_ok-named-in-Element-clause-value t c =
-    let part = element_resolved (names_of c.args.scope.now) c.args.fresh c.args.e.now c.in-Element.name c.in-Element.index c.in-Element.is in
+    let part = element_resolved (names_of c.args.scope.now) c.args.fresh c.args.e.now c.in-Element.name
+    c.in-Element.index c.in-Element.is in
     cc (
       part,
       c.in_ok-named-in-Element.ensures.value,
@@ -27,5 +28,6 @@ expression-returns-in_ok-named-in-Element-clause-value t c =
 
 pub expression-returns-in_ok-named-in-Element-clause-unsigned : goal.expression-returns-in_ok-named-in-Element-clause-unsigned
 expression-returns-in_ok-named-in-Element-clause-unsigned t c =
-    let part = element_typed (names_of c.args.scope.now) c.args.e.now c.in-Element.name c.in-Element.index c.in-Element.is in
+    let part = element_typed (names_of c.args.scope.now) c.args.e.now c.in-Element.name c.in-Element.index
+    c.in-Element.is in
     cc (part, c.in_ok-named-in-Element.ensures.unsigned, c.find-in-Element.ensures.shown, c.as_str-in-Element.ensures)

@@ -7,7 +7,8 @@ use Rattle.c_meaning.proofs.expressions.arguments.Given as goal
 
 abbrev pub invariant-loop-e : goal.invariant-loop-e
 invariant-loop-e l = record {
-  values : map plain_sp l.values.items ++ resolved_args (names_of l.scope) l.fresh (map plain_expr (drop l.e-index l.args))
+  values : map plain_sp l.values.items ++ resolved_args (names_of l.scope) l.fresh (map plain_expr
+      (drop l.e-index l.args))
       ≡ resolved_args (names_of l.scope) l.fresh (map plain_expr l.args);
   count : length l.values.items ≡ l.e-index;
 }

@@ -14,7 +14,8 @@ use Rattle.c_meaning.proofs.routines.resolve.Goals as goal
 pub new-requires : goal.new-requires
 new-requires c =
     let program = c.args.program.now in
-    subst SlotsFit (sym (c.as_slice.ensures ∙ program.laid)) (layout_fits program.place.cores program.place.core (plain program.unit) program.valid)
+    subst SlotsFit (sym (c.as_slice.ensures ∙ program.laid)) (layout_fits program.place.cores program.place.core
+    (plain program.unit) program.valid)
 
 pub add_item-requires-clause-fits : goal.add_item-requires-clause-fits
 add_item-requires-clause-fits c =
@@ -53,13 +54,17 @@ loop-item-preserved c =
     record {
       names = c.in_ok-add_item.ensures.names ∙ c.loop-item.invariant.names;
       routines = ap₂ (λ bs f. bs ++ resolved_items slots f rest) one_more c.in_ok-add_item.ensures.functions
-          ∙ append_assoc bodies (resolved_items slots fs (plain_item t ∷ [])) (resolved_items slots (fs ++ names_in (plain_item t ∷ [])) rest)
-          ∙ ap (λ rs. bodies ++ rs) (sym (items_next slots fs items i t (omega arith) c.item-item.is)) ∙ c.loop-item.invariant.routines;
+          ∙ append_assoc bodies (resolved_items slots fs (plain_item t ∷ [])) (resolved_items slots
+          (fs ++ names_in (plain_item t ∷ [])) rest)
+          ∙ ap (λ rs. bodies ++ rs) (sym (items_next slots fs items i t (omega arith) c.item-item.is))
+          ∙ c.loop-item.invariant.routines;
       counts = ap (λ cs. cs ++ parameters_in rest) c.in_ok-add_item.ensures.counts
           ∙ append_assoc (counts_of c.loop-item.routines.items) (parameters_in (plain_item t ∷ [])) (parameters_in rest)
-          ∙ ap (λ ns. counts_of c.loop-item.routines.items ++ ns) (sym (counts_next items i t (omega arith) c.item-item.is)) ∙ c.loop-item.invariant.counts;
+          ∙ ap (λ ns. counts_of c.loop-item.routines.items
+          ++ ns) (sym (counts_next items i t (omega arith) c.item-item.is)) ∙ c.loop-item.invariant.counts;
       functions = ap (λ f. f ++ names_in rest) c.in_ok-add_item.ensures.functions
           ∙ append_assoc fs (names_in (plain_item t ∷ [])) (names_in rest)
-          ∙ ap (λ ns. fs ++ ns) (sym (names_next items i t (omega arith) c.item-item.is)) ∙ c.loop-item.invariant.functions;
+          ∙ ap (λ ns. fs ++ ns) (sym (names_next items i t (omega arith) c.item-item.is))
+          ∙ c.loop-item.invariant.functions;
       items = c.loop-item.invariant.items;
     }

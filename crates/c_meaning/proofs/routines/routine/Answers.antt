@@ -18,9 +18,11 @@ statements-requires c =
     let names : Names = record { slots = slots; variables = parameter_variables c.args.function.now.parameters } in
     let opened : names_of c.parameters.new.scope ≡ names =
     c.in_ok-parameters.ensures.names
-    ∙ ap₂ (λ vs ps. let n : Names = record { slots = slots; variables = vs ++ parameter_variables ps } in n) c.requires.none c.as_slice-given.ensures in
+    ∙ ap₂ (λ vs ps. let n : Names = record { slots = slots; variables = vs ++ parameter_variables ps } in n)
+    c.requires.none c.as_slice-given.ensures in
     subst (λ n. BlockFits n (block_of c.as_slice.result.now)) (sym opened)
-    (subst (λ ss. BlockFits names (block_of ss)) (sym c.as_slice.ensures) (body_block names c.args.function.now.body c.requires.fits.1))
+    (subst (λ ss. BlockFits names (block_of ss)) (sym c.as_slice.ensures) (body_block names c.args.function.now.body
+    c.requires.fits.1))
 
 -- from no action on
 pub returns-clause-body : goal.returns-clause-body
@@ -31,9 +33,11 @@ returns-clause-body c =
     let open_names = names_of c.parameters.new.scope in
     let opened : open_names ≡ names =
     c.in_ok-parameters.ensures.names
-    ∙ ap₂ (λ vs ps. let n : Names = record { slots = slots; variables = vs ++ parameter_variables ps } in n) c.requires.none c.as_slice-given.ensures in
+    ∙ ap₂ (λ vs ps. let n : Names = record { slots = slots; variables = vs ++ parameter_variables ps } in n)
+    c.requires.none c.as_slice-given.ensures in
     ap actions_of c.of.ensures ∙ c.in_ok-statements.ensures.actions
-    ∙ ap (λ xs. joined (actions_of xs) (resolved_block fs open_names (block_of c.as_slice.result.now))) c.new-actions.ensures.items
+    ∙ ap (λ xs. joined (actions_of xs) (resolved_block fs open_names (block_of c.as_slice.result.now)))
+    c.new-actions.ensures.items
     ∙ ap (λ ss. resolved_block fs open_names (block_of ss)) c.as_slice.ensures
     ∙ ap₂ (λ f n. resolved_block f n (block_of c.args.function.now.body)) c.in_ok-parameters.ensures.functions opened
     ∙ body_is_block (functions_of c.args.scope.now) names c.args.function.now.body

@@ -12,8 +12,10 @@ use Rattle.c_meaning.proofs.statements.+statement.Given as goal
 
 abbrev pub invariant-statements-loop-s : goal.invariant-statements-loop-s
 invariant-statements-loop-s l = record {
-  actions : joined (actions_of l.out.items) (resolved_block (functions_of l.scope) (names_of l.scope) (block_of (drop l.s-index l.body)))
-      ≡ joined (actions_of l.initial.out.items) (resolved_block (functions_of l.initial.scope) (names_of l.initial.scope) (block_of l.body));
+  actions : joined (actions_of l.out.items) (resolved_block (functions_of l.scope) (names_of l.scope)
+      (block_of (drop l.s-index l.body)))
+      ≡ joined (actions_of l.initial.out.items) (resolved_block (functions_of l.initial.scope)
+      (names_of l.initial.scope) (block_of l.body));
   fits : BlockFits (names_of l.scope) (block_of (drop l.s-index l.body));
   kept : closed (length (names_of l.initial.scope).variables) (names_of l.scope) ≡ names_of l.initial.scope;
   functions : functions_of l.scope ≡ functions_of l.initial.scope;
@@ -21,7 +23,8 @@ invariant-statements-loop-s l = record {
 
 abbrev pub invariant-branches-loop-arm : goal.invariant-branches-loop-arm
 invariant-branches-loop-arm l = record {
-  branches : more_branches l.branches.items (resolved_arms (functions_of l.scope) (names_of l.scope) (arms_of (drop l.arm-index l.arms)))
+  branches : more_branches l.branches.items (resolved_arms (functions_of l.scope) (names_of l.scope)
+      (arms_of (drop l.arm-index l.arms)))
       ≡ resolved_arms (functions_of l.initial.scope) (names_of l.initial.scope) (arms_of l.arms);
   fits : ArmsFit (names_of l.scope) (arms_of (drop l.arm-index l.arms));
   names : names_of l.scope ≡ names_of l.initial.scope;

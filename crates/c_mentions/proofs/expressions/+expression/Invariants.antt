@@ -6,4 +6,5 @@ use Rattle.c_mentions.proofs.expressions.+expression.Given as goal
 
 abbrev pub invariant-note_steps-loop-step : goal.invariant-note_steps-loop-step
 invariant-note_steps-loop-step l =
-    Left l.hidden l.m l.initial.m (λ names. steps_uses names (steps_of (drop l.step-index l.steps))) (λ names. steps_uses names (steps_of l.steps))
+    Left l.hidden l.m l.initial.m (λ names. steps_uses names (steps_of (drop l.step-index l.steps)))
+    (λ names. steps_uses names (steps_of l.steps))

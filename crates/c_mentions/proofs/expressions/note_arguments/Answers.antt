@@ -9,6 +9,7 @@ pub loop-e-preserved : goal.loop-e-preserved
 loop-e-preserved c =
     left_more c.args.hidden c.loop-e.m c.note_expression.new.m c.args.m.now _
     (λ names. args_uses names (map plain_expr (drop (c.loop-e.e-index + 1) c.args.args.now)))
-    (λ names. args_uses names (map plain_expr (drop c.loop-e.e-index c.args.args.now))) (λ names. args_uses names (map plain_expr c.args.args.now))
+    (λ names. args_uses names (map plain_expr (drop c.loop-e.e-index c.args.args.now)))
+    (λ names. args_uses names (map plain_expr c.args.args.now))
     (λ names. args_next names c.args.args.now c.loop-e.e-index c.e-item.result (omega arith) c.e-item.is)
     c.note_expression.ensures c.loop-e.invariant

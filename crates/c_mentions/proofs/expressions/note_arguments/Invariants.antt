@@ -6,4 +6,5 @@ use Rattle.c_mentions.proofs.expressions.note_arguments.Given as goal
 
 abbrev pub invariant-loop-e : goal.invariant-loop-e
 invariant-loop-e l =
-    Left l.hidden l.m l.initial.m (λ names. args_uses names (map plain_expr (drop l.e-index l.args))) (λ names. args_uses names (map plain_expr l.args))
+    Left l.hidden l.m l.initial.m (λ names. args_uses names (map plain_expr (drop l.e-index l.args)))
+    (λ names. args_uses names (map plain_expr l.args))

@@ -12,5 +12,7 @@ returns c =
     let hidden = c.loop-item.hidden in
     let none = drop_all c.loop-item.item-index c.as_slice-item-items.result.now c.loop-item-test.false in
     hides_outside hidden (plain c.args.unit.now)
-    (or_none hidden.comm ∙ ap (λ ts. hidden.comm || any_declares (codes "comm") (map plain_item ts)) (sym none) ∙ c.loop-item.invariant.comm)
-    (or_none hidden.shared ∙ ap (λ ts. hidden.shared || any_declares (codes "shared") (map plain_item ts)) (sym none) ∙ c.loop-item.invariant.shared)
+    (or_none hidden.comm ∙ ap (λ ts. hidden.comm || any_declares (codes "comm") (map plain_item ts)) (sym none)
+    ∙ c.loop-item.invariant.comm)
+    (or_none hidden.shared ∙ ap (λ ts. hidden.shared || any_declares (codes "shared") (map plain_item ts)) (sym none)
+    ∙ c.loop-item.invariant.shared)

@@ -17,7 +17,8 @@ loop-item-preserved c =
       noted = λ slots hides.
           ap (λ n. with_uses n (items_uses slots rest)) (c.note_item.ensures slots hides)
           ∙ sym (uses_append m (item_uses slots (plain_item t)) (items_uses slots rest))
-          ∙ ap (λ ts. with_uses m (items_uses slots (map plain_item ts))) (sym (drop_item items i t (omega arith) c.item-item.is))
+          ∙ ap (λ ts. with_uses m (items_uses slots (map plain_item ts))) (sym
+          (drop_item items i t (omega arith) c.item-item.is))
           ∙ c.loop-item.invariant.noted slots hides;
       items = c.loop-item.invariant.items;
     }

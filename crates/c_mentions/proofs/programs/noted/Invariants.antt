@@ -9,6 +9,7 @@ use Rattle.c_mentions.proofs.programs.noted.Given as goal
 abbrev pub invariant-loop-item : goal.invariant-loop-item
 invariant-loop-item l = record {
   noted : (slots : List Slot) → Hides l.hidden (record { slots = slots; variables = [] })
-      → with_uses l.m (items_uses slots (map plain_item (drop l.item-index l.item-items))) ≡ with_uses none_noted (items_uses slots (plain l.unit));
+      → with_uses l.m (items_uses slots (map plain_item (drop l.item-index l.item-items)))
+      ≡ with_uses none_noted (items_uses slots (plain l.unit));
   items : l.item-items ≡ l.unit.items;
 }

@@ -26,67 +26,85 @@ note_statement-returns-in-Declare t c =
           c.note_first.ensures.noted (with_variable names kind text)
           (hides_variable hidden c.hidden_behind-behind.result names v
           (c.hidden_behind-behind.ensures.comm ∙ ap (λ n. hidden.comm || bytes_eq n (codes "comm")) c.as_str.ensures)
-          (c.hidden_behind-behind.ensures.shared ∙ ap (λ n. hidden.shared || bytes_eq n (codes "shared")) c.as_str.ensures) hides)
-          ∙ ap (with_uses c.args.m.now) (sym (declare_used names c.args.s.now kind text c.in-Declare.right c.in-Declare.is));
+          (c.hidden_behind-behind.ensures.shared ∙ ap (λ n. hidden.shared || bytes_eq n (codes "shared"))
+          c.as_str.ensures) hides)
+          ∙ ap (with_uses c.args.m.now) (sym (declare_used names c.args.s.now kind text c.in-Declare.right
+          c.in-Declare.is));
     }
 
 pub note_statement-returns-in-Set : goal.note_statement-returns-in-Set
 note_statement-returns-in-Set t c =
-    notes_two c.args.hidden c.args.m.now c.note_set.new.m c.note_right.new.m _ _ (λ names. stmt_uses names (plain_stmt c.args.s.now))
+    notes_two c.args.hidden c.args.m.now c.note_set.new.m c.note_right.new.m _ _
+    (λ names. stmt_uses names (plain_stmt c.args.s.now))
     (λ names. set_used names c.args.s.now c.in-Set.name c.in-Set.right c.in-Set.is
-    ∙ ap (λ text. sets (named names text) ∷ right_uses names (plain_right c.in-Set.right)) (sym c.as_str-in-Set.ensures))
+    ∙ ap (λ text. sets (named names text) ∷ right_uses names (plain_right c.in-Set.right))
+    (sym c.as_str-in-Set.ensures))
     c.note_set.ensures c.note_right.ensures
 
 pub note_statement-returns-in-SetElement : goal.note_statement-returns-in-SetElement
 note_statement-returns-in-SetElement t c =
-    notes_three c.args.hidden c.args.m.now c.note_set-in-SetElement.new.m c.note_expression.new.m c.note_right-in-SetElement.new.m _ _ _
+    notes_three c.args.hidden c.args.m.now c.note_set-in-SetElement.new.m c.note_expression.new.m
+    c.note_right-in-SetElement.new.m _ _ _
     (λ names. stmt_uses names (plain_stmt c.args.s.now))
-    (λ names. set_element_used names c.args.s.now c.in-SetElement.name c.in-SetElement.index c.in-SetElement.right c.in-SetElement.is
-    ∙ ap (λ text. sets (named names text) ∷ (expr_uses names (plain_expr c.in-SetElement.index) ++ right_uses names (plain_right c.in-SetElement.right)))
+    (λ names. set_element_used names c.args.s.now c.in-SetElement.name c.in-SetElement.index c.in-SetElement.right
+    c.in-SetElement.is
+    ∙ ap (λ text. sets (named names text) ∷ (expr_uses names (plain_expr c.in-SetElement.index)
+    ++ right_uses names (plain_right c.in-SetElement.right)))
     (sym c.as_str-in-SetElement.ensures))
     c.note_set-in-SetElement.ensures c.note_expression.ensures c.note_right-in-SetElement.ensures
 
 pub note_statement-returns-in-Call : goal.note_statement-returns-in-Call
 note_statement-returns-in-Call t c =
     notes_one c.args.hidden c.args.m.now c.note_arguments.new.m _ (λ names. stmt_uses names (plain_stmt c.args.s.now))
-    (λ names. call_used names c.args.s.now c.in-Call.name c.in-Call.args c.in-Call.is ∙ ap (λ es. args_uses names (map plain_expr es)) (sym c.as_slice.ensures))
+    (λ names. call_used names c.args.s.now c.in-Call.name c.in-Call.args c.in-Call.is
+    ∙ ap (λ es. args_uses names (map plain_expr es)) (sym c.as_slice.ensures))
     c.note_arguments.ensures
 
 pub note_statement-returns-in-Send : goal.note_statement-returns-in-Send
 note_statement-returns-in-Send t c =
     notes_one c.args.hidden c.args.m.now c.note_sending.new.m _ (λ names. stmt_uses names (plain_stmt c.args.s.now))
-    (λ names. send_used names c.args.s.now c.in-Send.core c.in-Send.core_unsigned c.in-Send.source c.in-Send.target c.in-Send.count c.in-Send.is)
+    (λ names. send_used names c.args.s.now c.in-Send.core c.in-Send.core_unsigned c.in-Send.source c.in-Send.target
+    c.in-Send.count c.in-Send.is)
     c.note_sending.ensures
 
 pub note_statement-returns-in-None : goal.note_statement-returns-in-None
 note_statement-returns-in-None t c =
-    notes_two c.args.hidden c.args.m.now c.note_arms.new.m c.note_arms.new.m _ (λ names. []) (λ names. stmt_uses names (plain_stmt c.args.s.now))
+    notes_two c.args.hidden c.args.m.now c.note_arms.new.m c.note_arms.new.m _ (λ names. [])
+    (λ names. stmt_uses names (plain_stmt c.args.s.now))
     (λ names. if_used names c.args.s.now c.in-If.arms c.in-If.otherwise c.in-If.is
-    ∙ ap₂ (λ xs o. arms_uses names (arms_of xs) ++ otherwise_uses names (otherwise_of o)) (sym c.as_slice-in-If.ensures) c.in-None.is)
+    ∙ ap₂ (λ xs o. arms_uses names (arms_of xs) ++ otherwise_uses names (otherwise_of o))
+    (sym c.as_slice-in-If.ensures) c.in-None.is)
     c.note_arms.ensures (notes_none c.args.hidden c.note_arms.new.m (λ names. []) (λ names. refl))
 
 pub note_statement-returns-in-Some : goal.note_statement-returns-in-Some
 note_statement-returns-in-Some t c =
-    notes_two c.args.hidden c.args.m.now c.note_arms.new.m c.note_block.new.m _ _ (λ names. stmt_uses names (plain_stmt c.args.s.now))
+    notes_two c.args.hidden c.args.m.now c.note_arms.new.m c.note_block.new.m _ _
+    (λ names. stmt_uses names (plain_stmt c.args.s.now))
     (λ names. if_used names c.args.s.now c.in-If.arms c.in-If.otherwise c.in-If.is
-    ∙ ap₂ (λ xs o. arms_uses names (arms_of xs) ++ otherwise_uses names (otherwise_of o)) (sym c.as_slice-in-If.ensures) c.in-Some.is
-    ∙ ap (λ ss. arms_uses names (arms_of c.as_slice-in-If.result.now) ++ block_uses names (block_of ss)) (sym c.as_slice-in-Some.ensures))
+    ∙ ap₂ (λ xs o. arms_uses names (arms_of xs) ++ otherwise_uses names (otherwise_of o))
+    (sym c.as_slice-in-If.ensures) c.in-Some.is
+    ∙ ap (λ ss. arms_uses names (arms_of c.as_slice-in-If.result.now) ++ block_uses names (block_of ss))
+    (sym c.as_slice-in-Some.ensures))
     c.note_arms.ensures c.note_block.ensures
 
 pub note_statement-returns-in-Loop : goal.note_statement-returns-in-Loop
 note_statement-returns-in-Loop t c =
-    notes_two c.args.hidden c.args.m.now c.note_head.new.m c.note_block-in-Loop.new.m _ _ (λ names. stmt_uses names (plain_stmt c.args.s.now))
+    notes_two c.args.hidden c.args.m.now c.note_head.new.m c.note_block-in-Loop.new.m _ _
+    (λ names. stmt_uses names (plain_stmt c.args.s.now))
     (λ names. loop_used names c.args.s.now c.in-Loop.bound c.in-Loop.head c.in-Loop.body c.in-Loop.is
-    ∙ ap (λ ss. head_uses names (plain_head c.in-Loop.head) ++ block_uses names (block_of ss)) (sym c.as_slice-in-Loop.ensures))
+    ∙ ap (λ ss. head_uses names (plain_head c.in-Loop.head) ++ block_uses names (block_of ss))
+    (sym c.as_slice-in-Loop.ensures))
     c.note_head.ensures c.note_block-in-Loop.ensures
 
 pub note_statement-returns-in-Break : goal.note_statement-returns-in-Break
 note_statement-returns-in-Break t c =
-    notes_none c.args.hidden c.args.m.now (λ names. stmt_uses names (plain_stmt c.args.s.now)) (λ names. break_used names c.args.s.now c.in-Break.is)
+    notes_none c.args.hidden c.args.m.now (λ names. stmt_uses names (plain_stmt c.args.s.now))
+    (λ names. break_used names c.args.s.now c.in-Break.is)
 
 pub note_statement-returns-in-Continue : goal.note_statement-returns-in-Continue
 note_statement-returns-in-Continue t c =
-    notes_none c.args.hidden c.args.m.now (λ names. stmt_uses names (plain_stmt c.args.s.now)) (λ names. continue_used names c.args.s.now c.in-Continue.is)
+    notes_none c.args.hidden c.args.m.now (λ names. stmt_uses names (plain_stmt c.args.s.now))
+    (λ names. continue_used names c.args.s.now c.in-Continue.is)
 
 pub note_statement-returns-in-Return : goal.note_statement-returns-in-Return
 note_statement-returns-in-Return t c =
@@ -95,8 +113,10 @@ note_statement-returns-in-Return t c =
 
 pub note_statement-returns-in-Inner : goal.note_statement-returns-in-Inner
 note_statement-returns-in-Inner t c =
-    notes_one c.args.hidden c.args.m.now c.note_block-in-Inner.new.m _ (λ names. stmt_uses names (plain_stmt c.args.s.now))
-    (λ names. inner_used names c.args.s.now c.in-Inner.body c.in-Inner.is ∙ ap (λ ss. block_uses names (block_of ss)) (sym c.as_slice-in-Inner.ensures))
+    notes_one c.args.hidden c.args.m.now c.note_block-in-Inner.new.m _
+    (λ names. stmt_uses names (plain_stmt c.args.s.now))
+    (λ names. inner_used names c.args.s.now c.in-Inner.body c.in-Inner.is ∙ ap (λ ss. block_uses names (block_of ss))
+    (sym c.as_slice-in-Inner.ensures))
     c.note_block-in-Inner.ensures
 
 pub note_block-loop-s-preserved : goal.note_block-loop-s-preserved
@@ -108,16 +128,20 @@ note_block-loop-s-preserved t c =
     let taken = take_more body i s (omega arith) ∙ ap (λ q. take i body ++ q ∷ []) (sym c.s-item.is) in
     record {
       hides = λ names hides.
-          subst (Hides c.hidden_after-behind.result) (sym (ap (names_through names) taken ∙ through_one names (take i body) s))
+          subst (Hides c.hidden_after-behind.result)
+          (sym (ap (names_through names) taken ∙ through_one names (take i body) s))
           (c.hidden_after-behind.ensures (names_through names (take i body)) (c.loop-s.invariant.hides names hides));
       left = record {
         left = λ names hides.
             let now = names_through names (take i body) in
             let behind = names_after now (plain_stmt s) in
-            ap (λ n. with_uses c.note_statement.new.m (block_uses n rest)) (ap (names_through names) taken ∙ through_one names (take i body) s)
-            ∙ ap (λ m. with_uses m (block_uses behind rest)) (c.note_statement.ensures.noted now (c.loop-s.invariant.hides names hides))
+            ap (λ n. with_uses c.note_statement.new.m (block_uses n rest)) (ap (names_through names) taken
+            ∙ through_one names (take i body) s)
+            ∙ ap (λ m. with_uses m (block_uses behind rest)) (c.note_statement.ensures.noted now
+            (c.loop-s.invariant.hides names hides))
             ∙ sym (uses_append c.loop-s.m (stmt_uses now (plain_stmt s)) (block_uses behind rest))
-            ∙ ap (with_uses c.loop-s.m) (sym (block_next now body i s (omega arith) c.s-item.is)) ∙ c.loop-s.invariant.left.left names hides;
+            ∙ ap (with_uses c.loop-s.m) (sym (block_next now body i s (omega arith) c.s-item.is))
+            ∙ c.loop-s.invariant.left.left names hides;
       };
     }
 
@@ -127,15 +151,18 @@ note_arms-loop-arm-preserved t c =
     let arms = c.args.arms.now in
     let i = c.loop-arm.arm-index in
     let a = c.arm-item.result in
-    left_more hidden c.note_expression.new.m c.note_block.new.m c.args.m.now (λ names. block_uses names (block_of c.as_slice.result.now))
+    left_more hidden c.note_expression.new.m c.note_block.new.m c.args.m.now
+    (λ names. block_uses names (block_of c.as_slice.result.now))
     (λ names. arms_uses names (arms_of (drop (i + 1) arms)))
     (λ names. block_uses names (block_of c.as_slice.result.now) ++ arms_uses names (arms_of (drop (i + 1) arms)))
     (λ names. arms_uses names (arms_of arms)) (λ names. refl) c.note_block.ensures
-    (left_more hidden c.loop-arm.m c.note_expression.new.m c.args.m.now (λ names. expr_uses names (plain_expr a.condition))
+    (left_more hidden c.loop-arm.m c.note_expression.new.m c.args.m.now
+    (λ names. expr_uses names (plain_expr a.condition))
     (λ names. block_uses names (block_of c.as_slice.result.now) ++ arms_uses names (arms_of (drop (i + 1) arms)))
     (λ names. arms_uses names (arms_of (drop i arms))) (λ names. arms_uses names (arms_of arms))
     (λ names. arms_next names arms i a (omega arith) c.arm-item.is
-    ∙ ap (λ ss. expr_uses names (plain_expr a.condition) ++ (block_uses names (block_of ss) ++ arms_uses names (arms_of (drop (i + 1) arms)))) (sym c.as_slice.ensures))
+    ∙ ap (λ ss. expr_uses names (plain_expr a.condition) ++ (block_uses names (block_of ss)
+    ++ arms_uses names (arms_of (drop (i + 1) arms)))) (sym c.as_slice.ensures))
     c.note_expression.ensures c.loop-arm.invariant)
 
 pub note_block-loop-s-init : goal.note_block-loop-s-init
@@ -147,6 +174,7 @@ note_block-returns t c =
     let i = c.loop-s.s-index in
     record {
       noted = λ names hides.
-          sym (ap (λ ss. with_uses c.loop-s.m (block_uses (names_through names (take i body)) (block_of ss))) (drop_all i body c.loop-s-test.false))
+          sym (ap (λ ss. with_uses c.loop-s.m (block_uses (names_through names (take i body)) (block_of ss)))
+          (drop_all i body c.loop-s-test.false))
           ∙ c.loop-s.invariant.left.left names hides;
     }

@@ -13,7 +13,8 @@ returns-in-Declare c = λ names hides.
     let kind = c.in-Declare.kind in
     let text = c.in-Declare.name in
     let v : Variable = record { name = text; unsigned = is_unsigned kind } in
-    subst (Hides c.hidden_behind.result) (sym (declare_named names c.args.s.now kind text c.in-Declare.right c.in-Declare.is))
+    subst (Hides c.hidden_behind.result)
+    (sym (declare_named names c.args.s.now kind text c.in-Declare.right c.in-Declare.is))
     (hides_variable hidden c.hidden_behind.result names v
     (c.hidden_behind.ensures.comm ∙ ap (λ n. hidden.comm || bytes_eq n (codes "comm")) c.as_str.ensures)
     (c.hidden_behind.ensures.shared ∙ ap (λ n. hidden.shared || bytes_eq n (codes "shared")) c.as_str.ensures) hides)
@@ -24,7 +25,8 @@ returns-in-Set c = λ names hides.
 
 pub returns-in-SetElement : goal.returns-in-SetElement
 returns-in-SetElement c = λ names hides.
-    subst (Hides c.args.hidden) (sym (set_element_named names c.args.s.now c.in-SetElement.name c.in-SetElement.index c.in-SetElement.right c.in-SetElement.is)) hides
+    subst (Hides c.args.hidden) (sym (set_element_named names c.args.s.now c.in-SetElement.name c.in-SetElement.index
+    c.in-SetElement.right c.in-SetElement.is)) hides
 
 pub returns-in-Call : goal.returns-in-Call
 returns-in-Call c = λ names hides.
@@ -33,7 +35,8 @@ returns-in-Call c = λ names hides.
 pub returns-in-Send : goal.returns-in-Send
 returns-in-Send c = λ names hides.
     subst (Hides c.args.hidden)
-    (sym (send_named names c.args.s.now c.in-Send.core c.in-Send.core_unsigned c.in-Send.source c.in-Send.target c.in-Send.count c.in-Send.is)) hides
+    (sym (send_named names c.args.s.now c.in-Send.core c.in-Send.core_unsigned c.in-Send.source c.in-Send.target
+    c.in-Send.count c.in-Send.is)) hides
 
 pub returns-in-If : goal.returns-in-If
 returns-in-If c = λ names hides.
@@ -41,7 +44,8 @@ returns-in-If c = λ names hides.
 
 pub returns-in-Loop : goal.returns-in-Loop
 returns-in-Loop c = λ names hides.
-    subst (Hides c.args.hidden) (sym (loop_named names c.args.s.now c.in-Loop.bound c.in-Loop.head c.in-Loop.body c.in-Loop.is)) hides
+    subst (Hides c.args.hidden) (sym (loop_named names c.args.s.now c.in-Loop.bound c.in-Loop.head c.in-Loop.body
+    c.in-Loop.is)) hides
 
 pub returns-in-Break : goal.returns-in-Break
 returns-in-Break c = λ names hides.

@@ -8,9 +8,11 @@ use Rattle.c_parse.proofs.functions.some_parameters.Goals as goal
 
 pub loop-behind-preserved : goal.loop-behind-preserved
 loop-behind-preserved c = record {
-  written = parameters_grown _ _ _ _ _ _ _ c.loop-behind.invariant.written c.loop-behind.invariant.some c.in_ok-push-2.ensures.items c.in-Some.ensures c.in_ok-further.ensures.written;
+  written = parameters_grown _ _ _ _ _ _ _ c.loop-behind.invariant.written c.loop-behind.invariant.some
+      c.in_ok-push-2.ensures.items c.in-Some.ensures c.in_ok-further.ensures.written;
   some = not_empty _ _ _ c.in_ok-push-2.ensures.items;
-  passes = λ xs. parameter_passed _ _ _ _ _ xs _ (c.loop-behind.invariant.passes xs) c.in-Some.ensures (c.in_ok-further.ensures.passes (MoreParameters ∷ xs));
+  passes = λ xs. parameter_passed _ _ _ _ _ xs _ (c.loop-behind.invariant.passes xs) c.in-Some.ensures
+      (c.in_ok-further.ensures.passes (MoreParameters ∷ xs));
   shorter = grind (arith, common_steps);
 }
 

@@ -6,7 +6,8 @@ use Rattle.c_parse.proofs.rights.arguments.Goals as goal
 
 pub loop-behind-preserved : goal.loop-behind-preserved
 loop-behind-preserved c = record {
-  written = args_grown _ _ _ _ _ _ _ c.loop-behind.invariant.written c.loop-behind.invariant.some c.in_ok-push-2.ensures.items c.in-Some-after.ensures c.in_ok-arg.ensures.written;
+  written = args_grown _ _ _ _ _ _ _ c.loop-behind.invariant.written c.loop-behind.invariant.some
+      c.in_ok-push-2.ensures.items c.in-Some-after.ensures c.in_ok-arg.ensures.written;
   some = not_empty _ _ _ c.in_ok-push-2.ensures.items;
   fits = each_grown _ _ _ _ c.loop-behind.invariant.fits c.in_ok-push-2.ensures.items c.in_ok-arg.ensures.fits;
   passes = grind (arith, common_steps, arguments_next);

@@ -13,7 +13,8 @@ use Rattle.c_run.proofs.begin.private_words.Goals as goal
 pub input_place-place-requires : goal.input_place-place-requires
 input_place-place-requires c =
     subst (λ items. words_in false (map plain_item items) ≤ MOST_PRIVATE_WORDS) (sym c.as_slice-items.ensures)
-    (private_fits c.args.program.now.place.cores c.args.program.now.place.core (plain c.args.program.now.unit) c.args.program.now.valid)
+    (private_fits c.args.program.now.place.cores c.args.program.now.place.core (plain c.args.program.now.unit)
+    c.args.program.now.valid)
 
 pub slice_bounds-lay-end : goal.slice_bounds-lay-end
 slice_bounds-lay-end c = sym (length-take-le c.min-reach.result c.args.input.now (omega (arith, c.min-reach.ensures)))
@@ -22,26 +23,44 @@ pub lay-requires : goal.lay-requires
 lay-requires c =
     let items = plain c.args.program.now.unit in
     let same = ap (map plain_item) c.as_slice-items.ensures in
-    let at : c.input_place-place.result.at ≡ (input_of items).at = c.input_place-place.ensures.at ∙ ap (λ xs. (input_of xs).at) same in
-    let room : c.input_place-place.result.room ≡ (input_of items).room = c.input_place-place.ensures.room ∙ ap (λ xs. (input_of xs).room) same in
+    let at : c.input_place-place.result.at ≡ (input_of items).at =
+    c.input_place-place.ensures.at ∙ ap (λ xs. (input_of xs).at) same in
+    let room : c.input_place-place.result.room ≡ (input_of items).room =
+    c.input_place-place.ensures.room ∙ ap (λ xs. (input_of xs).room) same in
     let over = length-take-le c.min-reach.result c.args.input.now (omega (arith, c.min-reach.ensures)) in
-    let data_ = private_fits c.args.program.now.place.cores c.args.program.now.place.core items c.args.program.now.valid in
-    omega (arith, at, room, over, data_, (input_within 4 items (omega arith)).1, c.min-reach.ensures, c.in_ok-resize.ensures.len)
+    let data_ = private_fits c.args.program.now.place.cores c.args.program.now.place.core items
+    c.args.program.now.valid in
+    omega (
+      arith,
+      at,
+      room,
+      over,
+      data_,
+      (input_within 4 items (omega arith)).1,
+      c.min-reach.ensures,
+      c.in_ok-resize.ensures.len,
+    )
 
 pub returns-clause-words : goal.returns-clause-words
 returns-clause-words c =
     let items = plain c.args.program.now.unit in
     let same = ap (map plain_item) c.as_slice-items.ensures in
-    let at : c.input_place-place.result.at ≡ (input_of items).at = c.input_place-place.ensures.at ∙ ap (λ xs. (input_of xs).at) same in
-    let room : c.input_place-place.result.room ≡ (input_of items).room = c.input_place-place.ensures.room ∙ ap (λ xs. (input_of xs).room) same in
+    let at : c.input_place-place.result.at ≡ (input_of items).at =
+    c.input_place-place.ensures.at ∙ ap (λ xs. (input_of xs).at) same in
+    let room : c.input_place-place.result.room ≡ (input_of items).room =
+    c.input_place-place.ensures.room ∙ ap (λ xs. (input_of xs).room) same in
     let over = take c.min-reach.result c.args.input.now in
     let first = c.in_ok-words.ensures ∙ ap (λ xs. replicate 4 0 ++ initial_of xs) same in
     let words = c.resize.new.self.items in
-    let fits = initial_fits c.args.program.now.place.cores c.args.program.now.place.core items c.args.program.now.valid in
-    let data_ = private_fits c.args.program.now.place.cores c.args.program.now.place.core items c.args.program.now.valid in
-    let reach : c.min-reach.result ≡ min (input_of items).room (length c.args.input.now) = c.min-reach.ensures ∙ ap (λ r. min r (length c.args.input.now)) room in
+    let fits = initial_fits c.args.program.now.place.cores c.args.program.now.place.core items
+    c.args.program.now.valid in
+    let data_ = private_fits c.args.program.now.place.cores c.args.program.now.place.core items
+    c.args.program.now.valid in
+    let reach : c.min-reach.result ≡ min (input_of items).room (length c.args.input.now) =
+    c.min-reach.ensures ∙ ap (λ r. min r (length c.args.input.now)) room in
     ap slice_index (c.lay.ensures.words ∙ ap (λ k. take k words ++ (over ++ drop (k + length over) words)) at)
-    ∙ begun_words items c.args.input.now c.in_ok-words.words.items words (65536 - vec_len c.in_ok-words.words) c.min-reach.result first
+    ∙ begun_words items c.args.input.now c.in_ok-words.words.items words (65536 - vec_len c.in_ok-words.words)
+    c.min-reach.result first
     (let size = ap length first in omega (arith, size, length-append (replicate 4 0) (initial_of items), fits))
     c.in_ok-resize.ensures.items reach
     (omega (arith, reach, data_, (input_within 4 items (omega arith)).1, c.in_ok-resize.ensures.len))

@@ -5,4 +5,5 @@ use Rattle.c_run.specs.Reported.{words_from}
 use Rattle.c_run.proofs.outcome.store_of.Given as goal
 
 abbrev pub invariant-loop-at : goal.invariant-loop-at
-invariant-loop-at l = (sends : List Sending) → l.words.items ≡ words_from (words_in l.array.region (shown l.memory sends)) l.array.first l.at
+invariant-loop-at l = (sends : List Sending) → l.words.items
+    ≡ words_from (words_in l.array.region (shown l.memory sends)) l.array.first l.at

@@ -24,9 +24,12 @@ invariant-all-loop-action l = record {
 abbrev pub invariant-iterations-loop-iterated : goal.invariant-iterations-loop-iterated
 invariant-iterations-loop-iterated l = record {
   reaches : (sends : List Sending) → Reaches
-      (iterations_done (holds (plain_sp l.iterating.condition.now)) (actions_done (served_by l.routines) (actions_of l.iterating.body.now))
-      (step_done (option_map plain_assignment l.iterating.step.now)) l.max (state_of l.initial.frame l.initial.memory sends))
-      (iterations_done (holds (plain_sp l.iterating.condition.now)) (actions_done (served_by l.routines) (actions_of l.iterating.body.now))
+      (iterations_done (holds (plain_sp l.iterating.condition.now)) (actions_done (served_by l.routines)
+      (actions_of l.iterating.body.now))
+      (step_done (option_map plain_assignment l.iterating.step.now)) l.max
+      (state_of l.initial.frame l.initial.memory sends))
+      (iterations_done (holds (plain_sp l.iterating.condition.now)) (actions_done (served_by l.routines)
+      (actions_of l.iterating.body.now))
       (step_done (option_map plain_assignment l.iterating.step.now)) (l.max - l._iterated)) l.frame l.memory;
   rooms : rooms l.memory ≡ all_rooms;
 }
@@ -39,13 +42,16 @@ decreases-all l = total (bodies_of l.routines.now) (length l.routines.now) + act
 
 abbrev pub decreases-choose : goal.decreases-choose
 decreases-choose l =
-    total (bodies_of l.routines.now) (length l.routines.now) + 1 + branches_size (branches_of l.branches.now) + actions_size (actions_of l.otherwise.now)
+    total (bodies_of l.routines.now) (length l.routines.now) + 1 + branches_size (branches_of l.branches.now)
+    + actions_size (actions_of l.otherwise.now)
 
 abbrev pub decreases-iteration : goal.decreases-iteration
-decreases-iteration l = total (bodies_of l.routines.now) (length l.routines.now) + 1 + actions_size (actions_of l.body.now)
+decreases-iteration l =
+    total (bodies_of l.routines.now) (length l.routines.now) + 1 + actions_size (actions_of l.body.now)
 
 abbrev pub decreases-iterations : goal.decreases-iterations
-decreases-iterations l = total (bodies_of l.routines.now) (length l.routines.now) + 2 + actions_size (actions_of l.iterating.now.body.now)
+decreases-iterations l =
+    total (bodies_of l.routines.now) (length l.routines.now) + 2 + actions_size (actions_of l.iterating.now.body.now)
 
 abbrev pub decreases-called : goal.decreases-called
 decreases-called l = total (bodies_of l.routines.now) (length l.routines.now) + 1

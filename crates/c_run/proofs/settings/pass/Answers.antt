@@ -14,13 +14,17 @@ loop-number-preserved c =
     record {
       passed = λ sends k below.
           let s = state_of c.args.frame.now c.args.memory.now sends in
-          let given = c.value.ensures sends ∙ sym (worth_at c.args.args.now n c.index-args-number.result s (omega arith) c.index-args-number.is) in
+          let given = c.value.ensures sends ∙ sym (worth_at c.args.args.now n c.index-args-number.result s
+          (omega arith) c.index-args-number.is) in
           ap (λ v. slice_index (slice_set own n v) k) given
-          ∙ fill_by_more (slice_index (args_worth (map plain_sp c.args.args.now) s)) own n 0 (omega arith) (c.loop-number.invariant.passed sends) k below;
-      cleared = λ k past. get_or-set_other own n k c.value.result 0 (omega arith) ∙ c.loop-number.invariant.cleared k (omega arith);
+          ∙ fill_by_more (slice_index (args_worth (map plain_sp c.args.args.now) s)) own n 0 (omega arith)
+          (c.loop-number.invariant.passed sends) k below;
+      cleared = λ k past. get_or-set_other own n k c.value.result 0 (omega arith)
+          ∙ c.loop-number.invariant.cleared k (omega arith);
     }
 
 pub returns : goal.returns
 returns c = λ sends.
     words_passed c.args.args.now c.loop-number.own (state_of c.args.frame.now c.args.memory.now sends)
-    (λ k below. c.loop-number.invariant.passed sends k (omega arith)) (λ k past. c.loop-number.invariant.cleared k (omega arith))
+    (λ k below. c.loop-number.invariant.passed sends k (omega arith)) (λ k past. c.loop-number.invariant.cleared
+    k (omega arith))

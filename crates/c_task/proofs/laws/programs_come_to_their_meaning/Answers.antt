@@ -9,4 +9,5 @@ returns c = λ items valid code input values world given words limit enough so.
     let place = c.args.place.now in
     let holds = world_held (single items) place input world code.initial given.0 words in
     program_meaning place items valid input world limit _ _
-    (c.tasks_come_to_their_meaning.ensures (single items) input values world (program_runs place items valid) code holds given limit enough so)
+    (c.tasks_come_to_their_meaning.ensures (single items) input values world (program_runs place items valid) code holds
+    given limit enough so)

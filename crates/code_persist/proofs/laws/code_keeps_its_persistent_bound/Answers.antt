@@ -4,5 +4,6 @@ use Rattle.code_persist.proofs.laws.code_keeps_its_persistent_bound.Goals as goa
 
 pub returns : goal.returns
 returns c = record {
-  within = λ s addresses link behaves. ends_sooner c.args.place.now s addresses link behaves (c.place_has_slots.ensures (linked s)) c.args.place.now.in_range.among;
+  within = λ s addresses link behaves. ends_sooner c.args.place.now s addresses link behaves
+      (c.place_has_slots.ensures (linked s)) c.args.place.now.in_range.among;
 }

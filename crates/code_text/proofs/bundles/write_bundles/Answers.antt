@@ -6,5 +6,6 @@ use Rattle.code_text.proofs.bundles.write_bundles.Goals as goal
 
 pub write_line-requires : goal.write_line-requires
 write_line-requires c =
-    let front = ap bundles_words (drop_item c.args.bundles.now c.loop-bundle.bundle-index c.bundle-item.result (omega arith) c.bundle-item.is) in
+    let front = ap bundles_words (drop_item c.args.bundles.now c.loop-bundle.bundle-index c.bundle-item.result
+    (omega arith) c.bundle-item.is) in
     omega (arith, front, bundle_some c.bundle-item.result, c.loop-bundle.invariant.at, c.requires.small)

@@ -17,7 +17,8 @@ returns-clause-parts c =
     let count = functions_count c.args.runs.now.shape.now.functions in
     let all = ap length c.as_slice.ensures in
     ap parts_of c.as_slice-2.ensures
-    ∙ sym (function_at c.as_slice.result.now k c.index-as_slice-function.result (omega (arith, c.requires.within, count, all)) c.index-as_slice-function.is)
+    ∙ sym (function_at c.as_slice.result.now k c.index-as_slice-function.result
+    (omega (arith, c.requires.within, count, all)) c.index-as_slice-function.is)
     ∙ ap (λ fs. slice_index_or (functions_of fs) k no_part) c.as_slice.ensures
 
 pub returns-clause-small : goal.returns-clause-small
@@ -31,5 +32,6 @@ returns-clause-few c =
     let s = shape_of c.args.runs.now in
     let k = c.args.function in
     let is = ap parts_loops (returns-clause-parts c) in
-    let few = few_loops k (function s k) (each_formed s.functions k (length s.functions) c.requires.within (shape_parts s c.requires.runs.formed).functions) in
+    let few = few_loops k (function s k) (each_formed s.functions k (length s.functions) c.requires.within
+    (shape_parts s c.requires.runs.formed).functions) in
     omega (arith, is, few, c.requires.runs.fits.small k c.requires.within)

@@ -7,4 +7,5 @@ use Rattle.code_text.proofs.functions.write_tally.Goals as goal
 pub returns-in-Some : goal.returns-in-Some
 returns-in-Some c =
     subst (λ t. OnOk c.write.result (string_bytes c.write.new.self ≡ string_bytes c.args.text.now ++ t))
-    (sym (tally_nested (decimal c.in-Some.tally.bundles) (decimal c.in-Some.tally.transactions)) ∙ ap tally_text (sym c.in-Some.is)) c.write.ensures.bytes
+    (sym (tally_nested (decimal c.in-Some.tally.bundles) (decimal c.in-Some.tally.transactions))
+    ∙ ap tally_text (sym c.in-Some.is)) c.write.ensures.bytes

@@ -19,8 +19,10 @@ pub write_part-returns-in_ok-at-in-Straight-clause-text : goal.write_part-return
 write_part-returns-in_ok-at-in-Straight-clause-text t c =
     let old = string_bytes c.args.text.now in
     c.in_ok-at-in-Straight.ensures.text
-    ∙ ap (λ bs. old ++ lines_text (bundle_lines c.args.names.now c.args.words.now Onward c.args.spot.at bs)) c.as_slice.ensures
-    ∙ ap (λ p. old ++ lines_text (part_lines c.args.names.now c.args.words.now c.args.spot.at c.args.spot.loop_number p)) (sym (straight_said c.args.part.now c.in-Straight.bundles c.in-Straight.is))
+    ∙ ap (λ bs. old ++ lines_text (bundle_lines c.args.names.now c.args.words.now Onward c.args.spot.at bs))
+    c.as_slice.ensures
+    ∙ ap (λ p. old ++ lines_text (part_lines c.args.names.now c.args.words.now c.args.spot.at c.args.spot.loop_number
+    p)) (sym (straight_said c.args.part.now c.in-Straight.bundles c.in-Straight.is))
 
 pub write_part-returns-in_ok-at-in-Straight-clause-at : goal.write_part-returns-in_ok-at-in-Straight-clause-at
 write_part-returns-in_ok-at-in-Straight-clause-at t c =
@@ -41,8 +43,10 @@ pub write_part-returns-in_ok-at-in-CallTo-clause-text : goal.write_part-returns-
 write_part-returns-in_ok-at-in-CallTo-clause-text t c =
     let old = string_bytes c.args.text.now in
     c.in_ok-at-in-CallTo.ensures.text
-    ∙ ap (λ bs. old ++ lines_text (bundle_lines c.args.names.now c.args.words.now (Entry c.in-CallTo.function) c.args.spot.at bs)) c.as_slice-in-CallTo.ensures
-    ∙ ap (λ p. old ++ lines_text (part_lines c.args.names.now c.args.words.now c.args.spot.at c.args.spot.loop_number p)) (sym (call_said c.args.part.now c.in-CallTo.function c.in-CallTo.tail c.in-CallTo.is))
+    ∙ ap (λ bs. old ++ lines_text (bundle_lines c.args.names.now c.args.words.now (Entry c.in-CallTo.function)
+    c.args.spot.at bs)) c.as_slice-in-CallTo.ensures
+    ∙ ap (λ p. old ++ lines_text (part_lines c.args.names.now c.args.words.now c.args.spot.at c.args.spot.loop_number
+    p)) (sym (call_said c.args.part.now c.in-CallTo.function c.in-CallTo.tail c.in-CallTo.is))
 
 pub write_part-returns-in_ok-at-in-CallTo-clause-at : goal.write_part-returns-in_ok-at-in-CallTo-clause-at
 write_part-returns-in_ok-at-in-CallTo-clause-at t c =
@@ -63,8 +67,10 @@ pub write_part-returns-in_ok-at-in-Leave-clause-text : goal.write_part-returns-i
 write_part-returns-in_ok-at-in-Leave-clause-text t c =
     let old = string_bytes c.args.text.now in
     c.in_ok-at-in-Leave.ensures.text
-    ∙ ap (λ bs. old ++ lines_text (bundle_lines c.args.names.now c.args.words.now Onward c.args.spot.at bs)) c.as_slice-in-Leave.ensures
-    ∙ ap (λ p. old ++ lines_text (part_lines c.args.names.now c.args.words.now c.args.spot.at c.args.spot.loop_number p)) (sym (leave_said c.args.part.now c.in-Leave.tail c.in-Leave.is))
+    ∙ ap (λ bs. old ++ lines_text (bundle_lines c.args.names.now c.args.words.now Onward c.args.spot.at bs))
+    c.as_slice-in-Leave.ensures
+    ∙ ap (λ p. old ++ lines_text (part_lines c.args.names.now c.args.words.now c.args.spot.at c.args.spot.loop_number
+    p)) (sym (leave_said c.args.part.now c.in-Leave.tail c.in-Leave.is))
 
 pub write_part-returns-in_ok-at-in-Leave-clause-at : goal.write_part-returns-in_ok-at-in-Leave-clause-at
 write_part-returns-in_ok-at-in-Leave-clause-at t c =
@@ -80,17 +86,32 @@ pub write_part-write_parts-requires : goal.write_part-write_parts-requires
 write_part-write_parts-requires t c =
     let less = body_size c.args.part.now c.in-Repeat.count c.in-Repeat.body c.in-Repeat.tail c.in-Repeat.is in
     let body = ap (λ ps. parts_size (parts_of ps)) c.as_slice-in-Repeat.ensures in
-    let words = ap part_words (repeat_said c.args.part.now c.in-Repeat.count c.in-Repeat.body c.in-Repeat.tail c.in-Repeat.is) in
-    let loops = ap part_loops (repeat_said c.args.part.now c.in-Repeat.count c.in-Repeat.body c.in-Repeat.tail c.in-Repeat.is) in
+    let words = ap part_words (repeat_said c.args.part.now c.in-Repeat.count c.in-Repeat.body c.in-Repeat.tail
+    c.in-Repeat.is) in
+    let loops = ap part_loops (repeat_said c.args.part.now c.in-Repeat.count c.in-Repeat.body c.in-Repeat.tail
+    c.in-Repeat.is) in
     let inner = ap (λ ps. parts_words (parts_of ps)) c.as_slice-in-Repeat.ensures in
-    let iterations = ap (λ ps. parts_loops (parts_of ps)) c.as_slice-in-Repeat.ensures in
-    (omega (arith, c.decreases, less, body), (omega (arith, words, inner, c.requires.small), omega (arith, loops, iterations, c.requires.few)))
+    let iterations = ap (λ ps. parts_loops (parts_of ps)) c.as_slice-in-Repeat.ensures in (
+      omega (arith, c.decreases, less, body),
+      (
+        omega (arith, words, inner, c.requires.small),
+        omega (arith, loops, iterations, c.requires.few),
+      ),
+    )
 
 pub write_part-write_bundles-requires-in-Repeat : goal.write_part-write_bundles-requires-in-Repeat
 write_part-write_bundles-requires-in-Repeat t c =
-    let words = ap part_words (repeat_said c.args.part.now c.in-Repeat.count c.in-Repeat.body c.in-Repeat.tail c.in-Repeat.is) in
+    let words = ap part_words (repeat_said c.args.part.now c.in-Repeat.count c.in-Repeat.body c.in-Repeat.tail
+    c.in-Repeat.is) in
     let inner = ap (λ ps. parts_words (parts_of ps)) c.as_slice-in-Repeat.ensures in
-    omega (arith, words, inner, ap bundles_words c.as_slice-in-Repeat-2.ensures, c.in_ok-next-in-Repeat.ensures.at, c.requires.small)
+    omega (
+      arith,
+      words,
+      inner,
+      ap bundles_words c.as_slice-in-Repeat-2.ensures,
+      c.in_ok-next-in-Repeat.ensures.at,
+      c.requires.small,
+    )
 
 pub write_part-returns-in_ok-write_end-in-Repeat-clause-text : goal.write_part-returns-in_ok-write_end-in-Repeat-clause-text
 write_part-returns-in_ok-write_end-in-Repeat-clause-text t c =
@@ -100,26 +121,43 @@ write_part-returns-in_ok-write_end-in-Repeat-clause-text t c =
     let at = c.args.spot.at in
     let loop_number = c.args.spot.loop_number in
     let inner = parts_lines names words at (loop_number + 1) (parts_of c.in-Repeat.body) in
-    let behind : c.in_ok-next-in-Repeat.next.at ≡ at + parts_words (parts_of c.in-Repeat.body) = c.in_ok-next-in-Repeat.ensures.at ∙ ap (λ ps. at + parts_words (parts_of ps)) c.as_slice-in-Repeat.ensures in
-    let way = bundle_lines names words (Loop loop_number) (at + parts_words (parts_of c.in-Repeat.body)) c.in-Repeat.tail in
-    loop_text old (string_bytes c.write_begin.new.text) (string_bytes c.write_parts.new.text) (string_bytes c.write_bundles-in-Repeat.new.text) (string_bytes c.write_end.new.text)
-    (loop_begin loop_number c.in-Repeat.count) (marks loop_number) (loop_end loop_number) inner way c.in_ok-write_begin-in-Repeat.ensures
-    (c.in_ok-next-in-Repeat.ensures.text ∙ ap (λ ps. string_bytes c.write_begin.new.text ++ lines_text (parts_lines names words at (loop_number + 1) (parts_of ps))) c.as_slice-in-Repeat.ensures)
+    let behind : c.in_ok-next-in-Repeat.next.at ≡ at + parts_words (parts_of c.in-Repeat.body) =
+    c.in_ok-next-in-Repeat.ensures.at ∙ ap (λ ps. at + parts_words (parts_of ps)) c.as_slice-in-Repeat.ensures in
+    let way = bundle_lines names words (Loop loop_number) (at + parts_words (parts_of c.in-Repeat.body))
+    c.in-Repeat.tail in
+    loop_text old (string_bytes c.write_begin.new.text) (string_bytes c.write_parts.new.text)
+    (string_bytes c.write_bundles-in-Repeat.new.text) (string_bytes c.write_end.new.text)
+    (loop_begin loop_number c.in-Repeat.count) (marks loop_number) (loop_end loop_number) inner way
+    c.in_ok-write_begin-in-Repeat.ensures
+    (c.in_ok-next-in-Repeat.ensures.text ∙ ap (λ ps. string_bytes c.write_begin.new.text
+    ++ lines_text (parts_lines names words at (loop_number + 1) (parts_of ps))) c.as_slice-in-Repeat.ensures)
     (c.in_ok-at-in-Repeat.ensures.text
-    ∙ ap (λ n. string_bytes c.write_parts.new.text ++ lines_text (bundle_lines names words (Loop loop_number) n c.as_slice-in-Repeat-2.result.now)) behind
-    ∙ ap (λ bs. string_bytes c.write_parts.new.text ++ lines_text (bundle_lines names words (Loop loop_number) (at + parts_words (parts_of c.in-Repeat.body)) bs)) c.as_slice-in-Repeat-2.ensures)
+    ∙ ap (λ n. string_bytes c.write_parts.new.text ++ lines_text (bundle_lines names words (Loop loop_number) n
+    c.as_slice-in-Repeat-2.result.now)) behind
+    ∙ ap (λ bs. string_bytes c.write_parts.new.text ++ lines_text (bundle_lines names words (Loop loop_number)
+    (at + parts_words (parts_of c.in-Repeat.body)) bs)) c.as_slice-in-Repeat-2.ensures)
     c.in_ok-write_end-in-Repeat.ensures
-    ∙ ap (λ p. old ++ lines_text (part_lines names words at loop_number p)) (sym (repeat_said c.args.part.now c.in-Repeat.count c.in-Repeat.body c.in-Repeat.tail c.in-Repeat.is))
+    ∙ ap (λ p. old ++ lines_text (part_lines names words at loop_number p)) (sym
+    (repeat_said c.args.part.now c.in-Repeat.count c.in-Repeat.body c.in-Repeat.tail c.in-Repeat.is))
 
 pub write_part-returns-in_ok-write_end-in-Repeat-clause-at : goal.write_part-returns-in_ok-write_end-in-Repeat-clause-at
 write_part-returns-in_ok-write_end-in-Repeat-clause-at t c =
-    let words = ap part_words (repeat_said c.args.part.now c.in-Repeat.count c.in-Repeat.body c.in-Repeat.tail c.in-Repeat.is) in
+    let words = ap part_words (repeat_said c.args.part.now c.in-Repeat.count c.in-Repeat.body c.in-Repeat.tail
+    c.in-Repeat.is) in
     let inner = ap (λ ps. parts_words (parts_of ps)) c.as_slice-in-Repeat.ensures in
-    omega (arith, words, inner, ap bundles_words c.as_slice-in-Repeat-2.ensures, c.in_ok-next-in-Repeat.ensures.at, c.in_ok-at-in-Repeat.ensures.next)
+    omega (
+      arith,
+      words,
+      inner,
+      ap bundles_words c.as_slice-in-Repeat-2.ensures,
+      c.in_ok-next-in-Repeat.ensures.at,
+      c.in_ok-at-in-Repeat.ensures.next,
+    )
 
 pub write_part-returns-in_ok-write_end-in-Repeat-clause-loop_number : goal.write_part-returns-in_ok-write_end-in-Repeat-clause-loop_number
 write_part-returns-in_ok-write_end-in-Repeat-clause-loop_number t c =
-    let loops = ap part_loops (repeat_said c.args.part.now c.in-Repeat.count c.in-Repeat.body c.in-Repeat.tail c.in-Repeat.is) in
+    let loops = ap part_loops (repeat_said c.args.part.now c.in-Repeat.count c.in-Repeat.body c.in-Repeat.tail
+    c.in-Repeat.is) in
     let iterations = ap (λ ps. parts_loops (parts_of ps)) c.as_slice-in-Repeat.ensures in
     omega (arith, loops, iterations, c.in_ok-next-in-Repeat.ensures.loop_number)
 
@@ -130,8 +168,13 @@ write_parts-write_part-requires t c =
     let least = item_of part_size parts_size (λ p rest. refl) parts i c.part-item.result (omega arith) c.part-item.is in
     let front = drop_item parts i c.part-item.result (omega arith) c.part-item.is in
     let words = ap (λ ps. parts_words (parts_of ps)) front in
-    let loops = ap (λ ps. parts_loops (parts_of ps)) front in
-    (omega (arith, c.decreases, least), (omega (arith, words, c.loop-part.invariant.at, c.requires.small), omega (arith, loops, c.loop-part.invariant.loop_number, c.requires.few)))
+    let loops = ap (λ ps. parts_loops (parts_of ps)) front in (
+      omega (arith, c.decreases, least),
+      (
+        omega (arith, words, c.loop-part.invariant.at, c.requires.small),
+        omega (arith, loops, c.loop-part.invariant.loop_number, c.requires.few),
+      ),
+    )
 
 pub write_parts-loop-part-preserved : goal.write_parts-loop-part-preserved
 write_parts-loop-part-preserved t c =
@@ -139,8 +182,16 @@ write_parts-loop-part-preserved t c =
     let i = c.loop-part.part-index in
     let front = drop_item parts i c.part-item.result (omega arith) c.part-item.is in
     record {
-      text = next_text c.args.names.now c.args.words.now (string_bytes c.loop-part.text) (string_bytes c.write_part.new.text) c.loop-part.spot.at c.loop-part.spot.loop_number c.in_ok-spot.spot.at c.in_ok-spot.spot.loop_number
-          parts i c.part-item.result (omega arith) c.part-item.is c.in_ok-spot.ensures.text c.in_ok-spot.ensures.at c.in_ok-spot.ensures.loop_number ∙ c.loop-part.invariant.text;
+      text = next_text c.args.names.now c.args.words.now (string_bytes c.loop-part.text)
+          (string_bytes c.write_part.new.text) c.loop-part.spot.at c.loop-part.spot.loop_number c.in_ok-spot.spot.at
+          c.in_ok-spot.spot.loop_number
+          parts i c.part-item.result (omega arith) c.part-item.is c.in_ok-spot.ensures.text c.in_ok-spot.ensures.at
+          c.in_ok-spot.ensures.loop_number ∙ c.loop-part.invariant.text;
       at = omega (arith, c.in_ok-spot.ensures.at, ap (λ ps. parts_words (parts_of ps)) front, c.loop-part.invariant.at);
-      loop_number = omega (arith, c.in_ok-spot.ensures.loop_number, ap (λ ps. parts_loops (parts_of ps)) front, c.loop-part.invariant.loop_number);
+      loop_number = omega (
+        arith,
+        c.in_ok-spot.ensures.loop_number,
+        ap (λ ps. parts_loops (parts_of ps)) front,
+        c.loop-part.invariant.loop_number,
+      );
     }

@@ -9,5 +9,7 @@ pub returns : goal.returns
 returns c =
     let runs = c.args.runs.now in
     let fs = (shape_of runs).functions in
-    c.tally_of.ensures (run_bundles fs (length fs) c.args.function) (run_moves fs (length fs) c.args.function) (c.requires.runs.bundles c.args.function c.requires.within)
-    (c.requires.runs.cycles c.args.function c.requires.within ∙ ap held (runs_add fs runs.each (length fs) c.args.function))
+    c.tally_of.ensures (run_bundles fs (length fs) c.args.function) (run_moves fs (length fs) c.args.function)
+    (c.requires.runs.bundles c.args.function c.requires.within)
+    (c.requires.runs.cycles c.args.function c.requires.within
+    ∙ ap held (runs_add fs runs.each (length fs) c.args.function))

@@ -14,5 +14,7 @@ returns c =
     let s = shape_of runs in
     let below = (shape_parts s c.requires.runs.formed).entry in
     c.tally_of.ensures (task_bundles s) (task_moves s) (c.requires.runs.bundles s.entry below)
-    (held_sum c.plus-cycles.result _ _ (fill_bound runs.each s.functions s.entry) (bounds s.functions runs.each (fill_bound runs.each s.functions) (count_of runs) s.entry)
-    c.plus-cycles.ensures (c.requires.runs.fills s.entry below) (c.requires.runs.cycles s.entry below) ∙ ap held (tasks_add runs.each s))
+    (held_sum c.plus-cycles.result _ _ (fill_bound runs.each s.functions s.entry) (bounds s.functions runs.each
+    (fill_bound runs.each s.functions) (count_of runs) s.entry)
+    c.plus-cycles.ensures (c.requires.runs.fills s.entry below) (c.requires.runs.cycles s.entry below)
+    ∙ ap held (tasks_add runs.each s))

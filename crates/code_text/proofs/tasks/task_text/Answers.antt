@@ -14,6 +14,9 @@ returns-clause-assembles c =
     let s = plain_shape c.args.shape.now in
     let each = each_at c.args.place.now in
     let names = c.args.names.now in
-    let layout = c.in_ok-text.ensures.layout ∙ ap (λ ws. lines_text (task_lines names c.args.numbers each s ws)) (c.words.ensures.value ∙ ap (λ i. i.words) c.requires.image) in
-    ap code_of layout ∙ text_assembles names each s c.requires.formed c.requires.fits c.requires.bundles c.requires.names c.args.numbers
-    ∙ ap (λ (i : Parts). Ok (record { names = map (name_of names) (order s); starts = i.starts; words = i.words })) (sym c.requires.image)
+    let layout = c.in_ok-text.ensures.layout ∙ ap (λ ws. lines_text (task_lines names c.args.numbers each s ws))
+    (c.words.ensures.value ∙ ap (λ i. i.words) c.requires.image) in
+    ap code_of layout ∙ text_assembles names each s c.requires.formed c.requires.fits c.requires.bundles
+    c.requires.names c.args.numbers
+    ∙ ap (λ (i : Parts). Ok (record { names = map (name_of names) (order s); starts = i.starts; words = i.words }))
+    (sym c.requires.image)

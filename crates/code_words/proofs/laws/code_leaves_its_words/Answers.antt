@@ -14,10 +14,12 @@ pub returns : goal.returns
 returns c = λ s addresses input values cached memory world link behaves given fresh begins so.
     let place = c.args.place.now in
     let slots = c.place_has_slots.ensures (linked s) in
-    let m = means place s addresses link behaves slots place.in_range.among memory (Among cached) fresh.own world input values given fresh.apart begins.ports begins.own begins.board so in
+    let m = means place s addresses link behaves slots place.in_range.among memory (Among cached) fresh.own world input
+    values given fresh.apart begins.ports begins.own begins.board so in
     record {
       loads = m.loads;
       regs = sym m.ended.goes.is_as.regs ∙ ap (λ (z : Run). z.regs) m.run;
       own = subst (λ (z : Run). HoldsOwn (Among cached) z.memory (core_in (last_of place s input values))) m.run m.own;
-      board = subst (λ (z : Run). HoldsBoard place.core z.memory (after (last_of place s input values).told.own world)) m.run m.board;
+      board = subst (λ (z : Run). HoldsBoard place.core z.memory (after (last_of place s input values).told.own world))
+          m.run m.board;
     }

@@ -14,7 +14,8 @@ use Rattle.core_pace.proofs.SentGrows.{own_grows, sendings_grow}
 use Rattle.core_pace.proofs.growth.run_grows.Goals as goal
 
 -- the core of the run apart is that of the run with its bundles
-core_before : (n core : ℕ) (x : Core) (values : List ℕ) (t : ℕ) → core_in (before n core x values t) ≡ (apart turn n core x values t).core
+core_before : (n core : ℕ) (x : Core) (values : List ℕ) (t : ℕ) → core_in (before n core x values t)
+    ≡ (apart turn n core x values t).core
 core_before n core x values t = ap (λ (a : Alone Core). a.core) (run_before n core x values t)
 
 pub returns-clause-accesses : goal.returns-clause-accesses
@@ -27,9 +28,14 @@ returns-clause-accesses c = λ place image input values cycles more.
 pub returns-clause-stays : goal.returns-clause-stays
 returns-clause-stays c = λ place image input values cycles more still.
     let x : Core = begun (site_of place image) input in
-    let here : core_in (before place.cores place.core x values cycles) ≡ (apart turn place.cores place.core x values cycles).core = core_before place.cores place.core x values cycles in
-    let there : core_in (before place.cores place.core x values (cycles + more)) ≡ (apart turn place.cores place.core x values (cycles + more)).core = core_before place.cores place.core x values (cycles + more) in
-    let kept : IsSameTask (core_in (before place.cores place.core x values cycles)) (core_in (before place.cores place.core x values (cycles + more))) =
+    let here : core_in (before place.cores place.core x values cycles)
+    ≡ (apart turn place.cores place.core x values cycles).core =
+    core_before place.cores place.core x values cycles in
+    let there : core_in (before place.cores place.core x values (cycles + more))
+    ≡ (apart turn place.cores place.core x values (cycles + more)).core =
+    core_before place.cores place.core x values (cycles + more) in
+    let kept : IsSameTask (core_in (before place.cores place.core x values cycles))
+    (core_in (before place.cores place.core x values (cycles + more))) =
     stays_still place.cores place.core x values cycles more (ap (λ (y : Core). is_running y.plain) here ∙ still) in
     subst (λ d. IsSameTask (apart turn place.cores place.core x values cycles).core d) there
     (subst (λ y. IsSameTask y (core_in (before place.cores place.core x values (cycles + more)))) here kept)
@@ -42,14 +48,18 @@ pub returns-clause-sendings : goal.returns-clause-sendings
 returns-clause-sendings c = λ place image input values cycles more.
     let x : Core = begun (site_of place image) input in
     let sendings : Alone Core → List Sending = λ a. a.core.seen.sendings in
-    subst (λ a. BeginsWith (sendings a) (sendings (apart turn place.cores place.core x values cycles))) (followed-run place.cores place.core x values (cycles + more))
-    (subst (λ a. BeginsWith (sendings (followed place.cores place.core x values (cycles + more)).run) (sendings a)) (followed-run place.cores place.core x values cycles)
+    subst (λ a. BeginsWith (sendings a) (sendings (apart turn place.cores place.core x values cycles)))
+    (followed-run place.cores place.core x values (cycles + more))
+    (subst (λ a. BeginsWith (sendings (followed place.cores place.core x values (cycles + more)).run) (sendings a))
+    (followed-run place.cores place.core x values cycles)
     (sendings_grow place.cores place.core x values cycles more))
 
 pub returns-clause-no_more : goal.returns-clause-no_more
 returns-clause-no_more c = λ place image input values cycles more still.
     let x : Core = begun (site_of place image) input in
-    let here : core_in (before place.cores place.core x values cycles) ≡ (apart turn place.cores place.core x values cycles).core = core_before place.cores place.core x values cycles in
+    let here : core_in (before place.cores place.core x values cycles)
+    ≡ (apart turn place.cores place.core x values cycles).core =
+    core_before place.cores place.core x values cycles in
     ap (λ (f : Followed). f.own) (sym (told_before place.cores place.core x values (cycles + more)))
     ∙ own_stays place.cores place.core x values cycles more (ap (λ (y : Core). is_running y.plain) here ∙ still)
     ∙ ap (λ (f : Followed). f.own) (told_before place.cores place.core x values cycles)

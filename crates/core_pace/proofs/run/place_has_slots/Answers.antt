@@ -5,5 +5,6 @@ use Rattle.core_pace.proofs.run.place_has_slots.Goals as goal
 pub returns : goal.returns
 returns c = λ image. record {
   lasts = omega (arith, c.args.place.now.in_range.slot_least);
-  entry = owner_has_entry c.args.place.now.cores c.args.place.now.core c.args.place.now.table c.args.place.now.owned c.args.place.now.in_range.among;
+  entry = owner_has_entry c.args.place.now.cores c.args.place.now.core c.args.place.now.table c.args.place.now.owned
+      c.args.place.now.in_range.among;
 }

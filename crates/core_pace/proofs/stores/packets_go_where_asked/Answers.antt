@@ -12,5 +12,6 @@ use Rattle.core_pace.proofs.stores.packets_go_where_asked.Goals as goal
 pub returns : goal.returns
 returns c = λ place image input values cycles.
     let x : Core = begun (site_of place image) input in
-    subst (λ (a : Alone Core). SendsAsAsked a.core.plain.interface a.core.seen.sendings) (followed-run place.cores place.core x values cycles)
+    subst (λ (a : Alone Core). SendsAsAsked a.core.plain.interface a.core.seen.sendings)
+    (followed-run place.cores place.core x values cycles)
     (sends_as_asked place.cores place.core x values cycles (new_asked place.cores place.core))

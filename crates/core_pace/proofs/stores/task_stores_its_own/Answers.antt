@@ -5,4 +5,5 @@ use Rattle.core_pace.proofs.OwnStores.{own_stores}
 use Rattle.core_pace.proofs.stores.task_stores_its_own.Goals as goal
 
 pub returns : goal.returns
-returns c = λ place image input values cycles. own_stores place.cores place.core (begun (site_of place image) input) values cycles refl
+returns c = λ place image input values cycles. own_stores place.cores place.core (begun (site_of place image) input)
+    values cycles refl

@@ -8,4 +8,5 @@ pub returns-clause-core : goal.returns-clause-core
 returns-clause-core c = λ n core x values values' cycles same. (task_determined n core x values values' cycles same).0
 
 pub returns-clause-operations : goal.returns-clause-operations
-returns-clause-operations c = λ n core x values values' cycles same. (task_determined n core x values values' cycles same).1
+returns-clause-operations c =
+    λ n core x values values' cycles same. (task_determined n core x values values' cycles same).1

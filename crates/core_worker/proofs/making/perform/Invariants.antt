@@ -12,5 +12,6 @@ invariant-loop-op g l = record {
   of : IsPassOf l.board l.pass;
   given : IsGiven l.pass.view;
   same : l.pass.view ≡ with_made l.initial.pass.view (own l.pass.view).made;
-  made : IsPartlyMade l.event.stamp l.ops (drop l.op-index l.ops) (own l.initial.pass.view).made (todo l.initial.pass.view) (own l.pass.view).made (todo l.pass.view) (take l.loads l.values);
+  made : IsPartlyMade l.event.stamp l.ops (drop l.op-index l.ops) (own l.initial.pass.view).made
+      (todo l.initial.pass.view) (own l.pass.view).made (todo l.pass.view) (take l.loads l.values);
 }

@@ -16,7 +16,9 @@ loop-k-preserved g c =
     let below : k < length ws = omega arith in
     record {
       of = All-set (IsOn c.args.board.now) ws k w' c.advance_on-turn.ensures.of c.loop-k.invariant.of;
-      later = all_set c.args.workers.now ws k c.index-workers-k.result w' c.loop-k.invariant.later below c.advance_on-turn.ensures.later;
+      later = all_set c.args.workers.now ws k c.index-workers-k.result w' c.loop-k.invariant.later below
+          c.advance_on-turn.ensures.later;
       pieces = AllWithin-more_set ws k w' below HasPieces c.loop-k.invariant.pieces c.advance_on-turn.ensures.pieces;
-      ended = λ t. let e = both_true c.loop-k.ended c.has_ended-ended.result t in AllWithin-more_set ws k w' below IsDone (c.loop-k.invariant.ended e.0) (c.advance_on-turn.ensures.ended (c.has_ended-ended.ensures.0 e.1));
+      ended = λ t. let e = both_true c.loop-k.ended c.has_ended-ended.result t in AllWithin-more_set ws k w' below
+          IsDone (c.loop-k.invariant.ended e.0) (c.advance_on-turn.ensures.ended (c.has_ended-ended.ensures.0 e.1));
     }

@@ -11,5 +11,6 @@ pub new-requires-2-clause-course : goal.new-requires-2-clause-course
 new-requires-2-clause-course c = (
   idle (site_of c.in-Some.place no_code),
   c.idle.ensures.stands,
-  idle_makes c.in-Some.place (listed c.args.pass.view) c.args.limit (ap (λ course. operations_of c.args.pass.view.cores (own c.args.pass.view).core course) c.requires.course),
+  idle_makes c.in-Some.place (listed c.args.pass.view) c.args.limit
+      (ap (λ course. operations_of c.args.pass.view.cores (own c.args.pass.view).core course) c.requires.course),
 )

@@ -10,6 +10,7 @@ abbrev pub invariant-loop-number : goal.invariant-loop-number
 invariant-loop-number g l = record {
   room : length l.fills ≡ MOST_FUNCTIONS;
   fills : AreHeld (fill_bound l.each (functions_of l.functions)) l.number l.fills;
-  steps : l.steps + functions_nodes (functions_of (drop l.number l.functions)) ≤ l.initial.steps + functions_nodes (functions_of l.functions);
+  steps : l.steps + functions_nodes (functions_of (drop l.number l.functions)) ≤ l.initial.steps
+      + functions_nodes (functions_of l.functions);
   forward : l.initial.steps ≤ l.steps;
 }

@@ -13,8 +13,10 @@ returns-clause-exact g c =
     λ far is.
     let place = c.args.place.now in
     let same = one_gap (is_slot_start place.table place.slot place.core) c.gap_of.result far c.gap_of.ensures.gap is in
-    let here = entry_bound c.args.shape.now c.as_slice-functions.result.now (c.gap_of.result + c.from.result - 1) c.cycles_of_functions-known.result c.plus.result
-    c.as_slice-functions.ensures c.requires.formed (c.cycles_of_functions-known.ensures.known _ c.fills_of_functions-fills.ensures.fills) c.plus.ensures in
+    let here = entry_bound c.args.shape.now c.as_slice-functions.result.now (c.gap_of.result + c.from.result - 1)
+    c.cycles_of_functions-known.result c.plus.result
+    c.as_slice-functions.ensures c.requires.formed (c.cycles_of_functions-known.ensures.known _
+    c.fills_of_functions-fills.ensures.fills) c.plus.ensures in
     c.within.ensures (shape_bound (far + place.slot - 1) (plain_shape c.args.shape.now))
     (here
     ∙ ap (λ n. held (shape_bound (c.gap_of.result + n - 1) (plain_shape c.args.shape.now))) c.from.ensures

@@ -20,23 +20,35 @@ words_of_part-returns-in-Straight-clause-steps g t c =
 
 pub words_of_part-returns-in-Repeat-clause-words : goal.words_of_part-returns-in-Repeat-clause-words
 words_of_part-returns-in-Repeat-clause-words g t c =
-    held_sum c.plus.result c.words_of_parts-once.result c.words_of_bundles-in-Repeat.result (parts_words (parts_of c.in-Repeat.body)) (bundles_words c.in-Repeat.tail)
+    held_sum c.plus.result c.words_of_parts-once.result c.words_of_bundles-in-Repeat.result
+    (parts_words (parts_of c.in-Repeat.body)) (bundles_words c.in-Repeat.tail)
     c.plus.ensures
     (c.words_of_parts-once.ensures.words ∙ ap (λ ps. held (parts_words (parts_of ps))) c.as_slice-in-Repeat.ensures)
     (c.words_of_bundles-in-Repeat.ensures.words ∙ ap (λ bs. held (bundles_words bs)) c.as_slice-in-Repeat-2.ensures)
-    ∙ ap (λ p. held (part_words p)) (sym (repeat_said c.args.part.now c.in-Repeat.count c.in-Repeat.body c.in-Repeat.tail c.in-Repeat.is))
+    ∙ ap (λ p. held (part_words p)) (sym (repeat_said c.args.part.now c.in-Repeat.count c.in-Repeat.body
+    c.in-Repeat.tail c.in-Repeat.is))
 
 pub words_of_part-returns-in-Repeat-clause-steps : goal.words_of_part-returns-in-Repeat-clause-steps
 words_of_part-returns-in-Repeat-clause-steps g t c =
-    let is = ap part_nodes (repeat_said c.args.part.now c.in-Repeat.count c.in-Repeat.body c.in-Repeat.tail c.in-Repeat.is) in
+    let is = ap part_nodes (repeat_said c.args.part.now c.in-Repeat.count c.in-Repeat.body c.in-Repeat.tail
+    c.in-Repeat.is) in
     let body = ap (λ ps. parts_nodes (parts_of ps)) c.as_slice-in-Repeat.ensures in
     let tail = ap (λ bs. length bs) c.as_slice-in-Repeat-2.ensures in
-    omega (arith, c.tick.ensures, c.words_of_parts-once.ensures.steps, c.words_of_bundles-in-Repeat.ensures.steps, is, body, tail)
+    omega (
+      arith,
+      c.tick.ensures,
+      c.words_of_parts-once.ensures.steps,
+      c.words_of_bundles-in-Repeat.ensures.steps,
+      is,
+      body,
+      tail,
+    )
 
 pub words_of_part-returns-in-CallTo-clause-words : goal.words_of_part-returns-in-CallTo-clause-words
 words_of_part-returns-in-CallTo-clause-words g t c =
     c.words_of_bundles-in-CallTo.ensures.words ∙ ap (λ bs. held (bundles_words bs)) c.as_slice-in-CallTo.ensures
-    ∙ ap (λ p. held (part_words p)) (sym (call_said c.args.part.now c.in-CallTo.function c.in-CallTo.tail c.in-CallTo.is))
+    ∙ ap (λ p. held (part_words p)) (sym (call_said c.args.part.now c.in-CallTo.function c.in-CallTo.tail
+    c.in-CallTo.is))
 
 pub words_of_part-returns-in-CallTo-clause-steps : goal.words_of_part-returns-in-CallTo-clause-steps
 words_of_part-returns-in-CallTo-clause-steps g t c =

@@ -9,5 +9,6 @@ abbrev pub invariant-words_of_parts-loop-part : goal.invariant-words_of_parts-lo
 invariant-words_of_parts-loop-part g l = record {
   words : held (l.words + parts_words (parts_of (drop l.part-index l.parts))) ≡ held (parts_words (parts_of l.parts));
   small : l.words ≤ 2 ^ 62 + 1;
-  steps : l.steps + parts_nodes (parts_of (drop l.part-index l.parts)) ≡ l.initial.steps + parts_nodes (parts_of l.parts);
+  steps : l.steps + parts_nodes (parts_of (drop l.part-index l.parts)) ≡ l.initial.steps
+      + parts_nodes (parts_of l.parts);
 }

@@ -13,11 +13,15 @@ loop-k-preserved c =
       | then-is_before w ↦ record {
         within = omega arith;
         least = subst (IsFirst cores (c.loop-k.k + 1)) (sym w.least-is)
-            (first_moves cores c.loop-k.k c.loop-k.least c.index-cores-k.result c.index-cores-least.result c.loop-k-test.true c.loop-k.invariant.within c.index-cores-k.is c.index-cores-least.is (c.is_before.ensures.before w.if-is_before.true) c.loop-k.invariant.least);
+            (first_moves cores c.loop-k.k c.loop-k.least c.index-cores-k.result c.index-cores-least.result
+            c.loop-k-test.true c.loop-k.invariant.within c.index-cores-k.is c.index-cores-least.is
+            (c.is_before.ensures.before w.if-is_before.true) c.loop-k.invariant.least);
       }
       | else-is_before w ↦ record {
         within = omega arith;
         least = subst (IsFirst cores (c.loop-k.k + 1)) (sym w.least-is)
-            (first_stays cores c.loop-k.k c.loop-k.least c.index-cores-k.result c.index-cores-least.result c.loop-k-test.true c.loop-k.invariant.within c.index-cores-k.is c.index-cores-least.is (c.is_before.ensures.not_before w.if-is_before.false) c.loop-k.invariant.least);
+            (first_stays cores c.loop-k.k c.loop-k.least c.index-cores-k.result c.index-cores-least.result
+            c.loop-k-test.true c.loop-k.invariant.within c.index-cores-k.is c.index-cores-least.is
+            (c.is_before.ensures.not_before w.if-is_before.false) c.loop-k.invariant.least);
       }
     ]

@@ -10,7 +10,8 @@ invariant-loop-k l = record {
   ready : Every (λ k. IsReady l.limit) l.cores;
   places : map place_of l.cores ≡ map place_of l.fn.cores;
   rooms : map room_of l.cores ≡ map room_of l.fn.cores;
-  followed : (x : ℕ → Core) → Begins x l.fn.cores → Followed (length l.fn.cores) l.limit x l.cores (slice_index l.words);
+  followed : (x : ℕ → Core) → Begins x l.fn.cores → Followed (length l.fn.cores) l.limit x l.cores
+      (slice_index l.words);
 }
 
 abbrev pub decreases-loop-k : goal.decreases-loop-k

@@ -5,7 +5,8 @@ use Rattle.job_gen.proofs.task.put_functions.Goals as goal
 
 pub loop-index-preserved : goal.loop-index-preserved
 loop-index-preserved c = record {
-  appended = more_functions FUNCTIONS _ _ _ _ _ _ (omega arith) c.in_ok-put_function.ensures.appended c.in_ok-put_function.ensures.left c.loop-index.invariant.appended;
+  appended = more_functions FUNCTIONS _ _ _ _ _ _ (omega arith) c.in_ok-put_function.ensures.appended
+      c.in_ok-put_function.ensures.left c.loop-index.invariant.appended;
   left = moved_thrice FUNCTIONS _ _ _ _ (omega arith) c.in_ok-put_function.ensures.left c.loop-index.invariant.left;
 }
 

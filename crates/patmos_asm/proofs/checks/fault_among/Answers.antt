@@ -9,14 +9,17 @@ use Rattle.patmos_asm.proofs.checks.fault_among.Goals as goal
 pub loop-i-preserved : goal.loop-i-preserved
 loop-i-preserved c =
     let item = c.index-items-i.result in
-    let none : fault_of (place_in c.args.functions.now) (place_in c.loop-i.labels) (shown_before c.loop-i.before) (shown_item item) ≡ None = search rules in
+    let none : fault_of (place_in c.args.functions.now) (place_in c.loop-i.labels) (shown_before c.loop-i.before)
+    (shown_item item) ≡ None = search rules in
     let next : shown_before c.add.new.self ≡ after (shown_before c.loop-i.before) (shown_item item) = search rules in
     let size : (c.add.new.self.size ≤ c.loop-i.before.size + 2) × (c.add.new.self.image ≤ c.loop-i.before.image + 2) =
     grown (shown_before c.loop-i.before) (shown_before c.add.new.self) (shown_item item) next in
     let within : c.loop-i.i < length c.args.items.now = search rules in (
-      fault_step (place_in c.args.functions.now) (place_in c.loop-i.labels) (place_in c.in_ok-labels-2.labels) (shown_before c.loop-i.before) (shown_before c.add.new.self)
+      fault_step (place_in c.args.functions.now) (place_in c.loop-i.labels) (place_in c.in_ok-labels-2.labels)
+          (shown_before c.loop-i.before) (shown_before c.add.new.self)
           c.args.items.now item c.loop-i.i within c.index-items-i.is none
-          (λ q. c.in_ok-labels-2.ensures q ∙ ap (λ rest. labels_after (place_in c.loop-i.labels) (shown_item item) (shown_items rest) q) c.split_at.ensures.back)
+          (λ q. c.in_ok-labels-2.ensures q ∙ ap (λ rest. labels_after (place_in c.loop-i.labels) (shown_item item)
+          (shown_items rest) q) c.split_at.ensures.back)
           next ∙ c.loop-i.invariant.0,
       omega arith,
       omega arith,

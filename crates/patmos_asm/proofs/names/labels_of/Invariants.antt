@@ -7,6 +7,7 @@ use Rattle.patmos_asm.proofs.names.labels_of.Given as goal
 
 abbrev pub invariant-loop-item : goal.invariant-loop-item
 invariant-loop-item l =
-    ((q : List ℕ) → option_or (place_in l.places q) (place_of (labels_from l.at (shown_items (drop l.item-index l.items))) q)
+    ((q : List ℕ) → option_or (place_in l.places q) (place_of
+    (labels_from l.at (shown_items (drop l.item-index l.items))) q)
     ≡ place_of (labels_from 0 (shown_items l.items)) q)
     × (l.at ≤ 2 * l.item-index)

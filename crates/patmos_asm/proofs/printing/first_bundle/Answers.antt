@@ -7,4 +7,5 @@ returns-in-len2-up-clause-bundle c = λ at.
 
 pub returns-in-len2-up-2-clause-bundle : goal.returns-in-len2-up-2-clause-bundle
 returns-in-len2-up-2-clause-bundle c = λ at.
-    two_words_first c.args.words.now _ at c.in-len2-up.len_at_least c.if-first.false c.decode-in-len2-up-2.ensures.computed
+    two_words_first c.args.words.now _ at c.in-len2-up.len_at_least c.if-first.false
+    c.decode-in-len2-up-2.ensures.computed

@@ -5,7 +5,8 @@ use Rattle.patmos_asm.proofs.printing.write_body.Given as goal
 
 abbrev pub invariant-bundles : goal.invariant-bundles
 invariant-bundles l =
-    (string_bytes l.text ++ lines_of (name_in l.functions) (branched_in l.targets) (bundles_from l.at (drop l.at l.body))
+    (string_bytes l.text ++ lines_of (name_in l.functions) (branched_in l.targets) (bundles_from l.at
+    (drop l.at l.body))
     ≡ string_bytes l.initial.text ++ lines_of (name_in l.functions) (branched_in l.targets) (bundles_from 0 l.body))
     × (l.at ≤ length l.body)
 

@@ -10,7 +10,8 @@ returns-in-None-clause-registers c =
     c.settle.ensures
     ∙ (λ i. record (after_writes (came c.args.regs.now.pending
     ∷ sym (asking_writes c.args.st c.args.ss c.args.regs.now c.args.bundle.now.first c.requires.asks) i
-    ∷ second_write c.args.st c.args.ss c.args.regs.now ((ap (option_map (λ i. i.now)) (sym c.in-None.is) ∙ c.second_slot.ensures.value) i)
+    ∷ second_write c.args.st c.args.ss c.args.regs.now ((ap (option_map (λ i. i.now)) (sym c.in-None.is)
+    ∙ c.second_slot.ensures.value) i)
     ∷ []) c.args.regs.now) {
       pending = sym (asking_begins c.args.regs.now c.args.bundle.now.first c.requires.asks) i;
     })

@@ -6,7 +6,8 @@ use Rattle.patmos_sem.proofs.files.put_register.Goals as goal
 use Rattle.patmos_sem.proofs.Told.{set_register, kept_registers}
 
 pub returns-then-number-ne0 : goal.returns-then-number-ne0
-returns-then-number-ne0 c = rw c.number-then-number-ne0.ensures.value (set_register c.args.general.now c.args.rd c.args.value (omega arith) (omega arith) c.requires)
+returns-then-number-ne0 c = rw c.number-then-number-ne0.ensures.value (set_register c.args.general.now c.args.rd
+    c.args.value (omega arith) (omega arith) c.requires)
 
 pub returns-else-number-ne0 : goal.returns-else-number-ne0
 returns-else-number-ne0 c =

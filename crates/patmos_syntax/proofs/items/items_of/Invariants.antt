@@ -6,7 +6,8 @@ use Rattle.patmos_syntax.proofs.items.items_of.Given as goal
 
 abbrev pub invariant-statements : goal.invariant-statements
 invariant-statements l =
-    (shown_items l.items.items ++ items_from (statements_of l.unread.line l.unread.text.now) ≡ items_from (statements_of 1 l.fn.text))
+    (shown_items l.items.items ++ items_from (statements_of l.unread.line l.unread.text.now)
+    ≡ items_from (statements_of 1 l.fn.text))
     × (l.unread.line + length l.unread.text.now ≤ 2 ^ 32)
 
 abbrev pub decreases-statements : goal.decreases-statements

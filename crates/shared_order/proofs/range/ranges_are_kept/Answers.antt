@@ -18,4 +18,5 @@ pub returns-clause-read : goal.returns-clause-read
 returns-clause-read g c = loads_fit
 
 pub returns-clause-apart : goal.returns-clause-apart
-returns-clause-apart g c = λ turn n core words x values t keep good given. (apart_keeps turn n core words g.X.Ranged.in_range x values t keep good given).good
+returns-clause-apart g c = λ turn n core words x values t keep good given.
+    (apart_keeps turn n core words g.X.Ranged.in_range x values t keep good given).good

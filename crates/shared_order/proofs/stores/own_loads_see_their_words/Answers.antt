@@ -11,7 +11,8 @@ pub returns-clause-some : goal.returns-clause-some
 returns-clause-some c = λ among. on_all (IsSome among)
 
 pub returns-clause-own : goal.returns-clause-own
-returns-clause-own c = λ among n core words os leave h. part_sees (IsSome among) n core words words os (λ word here. refl) leave h
+returns-clause-own c =
+    λ among n core words os leave h. part_sees (IsSome among) n core words words os (λ word here. refl) leave h
 
 pub returns-clause-all : goal.returns-clause-all
 returns-clause-all c = λ among. all_on (IsSome among)

@@ -5,7 +5,8 @@ use Rattle.single_path.specs.Counted.{actions_set}
 use Rattle.single_path.proofs.counted.+sets.Given as goal
 
 abbrev pub invariant-all_set-loop-action : goal.invariant-all_set-loop-action
-invariant-all_set-loop-action l = actions_set l.level (actions_of (drop l.action-index l.actions)) ≡ actions_set l.level (actions_of l.actions)
+invariant-all_set-loop-action l =
+    actions_set l.level (actions_of (drop l.action-index l.actions)) ≡ actions_set l.level (actions_of l.actions)
 
 abbrev pub decreases-one_sets : goal.decreases-one_sets
 decreases-one_sets l = action_size (plain_action l.action.now)

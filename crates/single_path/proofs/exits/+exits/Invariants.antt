@@ -5,7 +5,8 @@ use Rattle.single_path.specs.Made.{actions_exit}
 use Rattle.single_path.proofs.exits.+exits.Given as goal
 
 abbrev pub invariant-may_exit-loop-action : goal.invariant-may_exit-loop-action
-invariant-may_exit-loop-action l = actions_exit l.asked (actions_of (drop l.action-index l.actions)) ≡ actions_exit l.asked (actions_of l.actions)
+invariant-may_exit-loop-action l =
+    actions_exit l.asked (actions_of (drop l.action-index l.actions)) ≡ actions_exit l.asked (actions_of l.actions)
 
 abbrev pub decreases-one_exits : goal.decreases-one_exits
 decreases-one_exits l = action_size (plain_action l.action.now)

@@ -19,43 +19,52 @@ pub returns-clause-formed : goal.returns-clause-formed
 returns-clause-formed c =
     let program = c.args.program.now in
     so_of_tree c.taken_tree.result (plain program.unit) (λ u. is_formed u ≡ true) c.taken_tree.ensures
-    (taken_is_formed program.place.cores program.place.core (plain program.unit) program.place.in_range.cores_most program.valid)
+    (taken_is_formed program.place.cores program.place.core (plain program.unit) program.place.in_range.cores_most
+    program.valid)
 
 pub returns-clause-preserves : goal.returns-clause-preserves
 returns-clause-preserves c =
     let program = c.args.program.now in
     so_of_tree c.taken_tree.result (plain program.unit)
-    (λ u. (input : List ℕ) (shared comm : ℕ → ℕ) → IsMeant (straight u input shared comm) (meaning (plain program.unit) input shared comm)) c.taken_tree.ensures
+    (λ u. (input : List ℕ) (shared comm : ℕ → ℕ) → IsMeant (straight u input shared comm) (meaning (plain program.unit)
+    input shared comm)) c.taken_tree.ensures
     (taken_meant program.place.cores program.place.core (plain program.unit) program.valid)
 
 pub returns-clause-cost : goal.returns-clause-cost
 returns-clause-cost c =
     let program = c.args.program.now in
     so_of_tree c.taken_tree.result (plain program.unit)
-    (λ u. (k : ℕ) → k < length u.functions → cost (slice_index_or u.functions k no_function) ≤ slice_index (weights_in (plain program.unit)) k) c.taken_tree.ensures
-    (taken_costs program.place.cores program.place.core (plain program.unit) program.place.in_range.cores_most program.valid)
+    (λ u. (k : ℕ) → k < length u.functions → cost (slice_index_or u.functions k no_function)
+    ≤ slice_index (weights_in (plain program.unit)) k) c.taken_tree.ensures
+    (taken_costs program.place.cores program.place.core (plain program.unit) program.place.in_range.cores_most
+    program.valid)
 
 pub returns-clause-frame : goal.returns-clause-frame
 returns-clause-frame c =
     let program = c.args.program.now in
     so_of_tree c.taken_tree.result (plain program.unit)
-    (λ u. (k : ℕ) → k < length u.functions → (slice_index_or u.functions k no_function).frame ≤ slice_index (frames_in (plain program.unit)) k) c.taken_tree.ensures
-    (taken_frames program.place.cores program.place.core (plain program.unit) program.place.in_range.cores_most program.valid)
+    (λ u. (k : ℕ) → k < length u.functions → (slice_index_or u.functions k no_function).frame
+    ≤ slice_index (frames_in (plain program.unit)) k) c.taken_tree.ensures
+    (taken_frames program.place.cores program.place.core (plain program.unit) program.place.in_range.cores_most
+    program.valid)
 
 pub returns-clause-reads : goal.returns-clause-reads
 returns-clause-reads c =
     let items = plain c.args.program.now.unit in
-    so_of_tree c.taken_tree.result items (λ u. (a : Array) → list_any (reads_region (memory_of a)) (uses_of u) ≡ true → mentions a items ≡ true) c.taken_tree.ensures
+    so_of_tree c.taken_tree.result items (λ u. (a : Array) → list_any (reads_region (memory_of a)) (uses_of u) ≡ true
+    → mentions a items ≡ true) c.taken_tree.ensures
     (λ a. taken_reads a items)
 
 pub returns-clause-writes : goal.returns-clause-writes
 returns-clause-writes c =
     let items = plain c.args.program.now.unit in
-    so_of_tree c.taken_tree.result items (λ u. (a : Array) → list_any (writes_region (memory_of a)) (uses_of u) ≡ true → assigns a items ≡ true) c.taken_tree.ensures
+    so_of_tree c.taken_tree.result items (λ u. (a : Array) → list_any (writes_region (memory_of a)) (uses_of u) ≡ true
+    → assigns a items ≡ true) c.taken_tree.ensures
     (λ a. taken_writes a items)
 
 pub returns-clause-sends : goal.returns-clause-sends
 returns-clause-sends c =
     let items = plain c.args.program.now.unit in
-    so_of_tree c.taken_tree.result items (λ u. (core : ℕ) → list_any (is_send_to core) (uses_of u) ≡ true → sends_to core items ≡ true) c.taken_tree.ensures
+    so_of_tree c.taken_tree.result items (λ u. (core : ℕ) → list_any (is_send_to core) (uses_of u) ≡ true
+    → sends_to core items ≡ true) c.taken_tree.ensures
     (λ core. taken_sends core items)

@@ -6,5 +6,6 @@ use Rattle.single_path.proofs.units.functions.Given as goal
 
 abbrev pub invariant-loop-routine : goal.invariant-loop-routine
 invariant-loop-routine l =
-    functions_of l.made.items ++ made_functions (counts_of (drop l.routine-index l.routines)) (bodies_of (drop l.routine-index l.routines))
+    functions_of l.made.items ++ made_functions (counts_of (drop l.routine-index l.routines)) (bodies_of
+    (drop l.routine-index l.routines))
     ≡ made_functions (counts_of l.routines) (bodies_of l.routines)

@@ -7,7 +7,9 @@ use Rattle.single_path.proofs.units.taken_tree.Goals as goal
 pub returns : goal.returns
 returns c =
     let program = c.args.program.now in
-    taken_same program.place.cores program.place.core (plain program.unit) program.valid (map plain_item c.as_slice-items.result.now)
+    taken_same program.place.cores program.place.core (plain program.unit) program.valid
+    (map plain_item c.as_slice-items.result.now)
     (ap (map plain_item) c.as_slice-items.ensures)
     (plain_unit c.in_ok-tree.tree) _ _ c.take_in.result
-    c.in_ok-tree.ensures (c.as_slice.ensures.value ∙ c.in_ok-weights.ensures) (c.as_slice-2.ensures.value ∙ c.in_ok-frames.ensures) c.take_in.ensures
+    c.in_ok-tree.ensures (c.as_slice.ensures.value ∙ c.in_ok-weights.ensures) (c.as_slice-2.ensures.value
+    ∙ c.in_ok-frames.ensures) c.take_in.ensures

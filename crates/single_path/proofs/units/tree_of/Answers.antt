@@ -18,23 +18,38 @@ input_place-at-requires c =
 pub functions-requires : goal.functions-requires
 functions-requires c =
     let program = c.args.program.now in
-    frames_fit program.place.cores program.place.core (plain program.unit) program.place.in_range.cores_most program.valid program.layout
+    frames_fit program.place.cores program.place.core (plain program.unit) program.place.in_range.cores_most
+    program.valid program.layout
     (counts_of c.as_slice.result.now) (bodies_of c.as_slice.result.now) program.laid
-    (ap counts_of c.as_slice.ensures ∙ c.in_ok-resolved.ensures.parameters) (ap bodies_of c.as_slice.ensures ∙ c.in_ok-resolved.ensures.routines)
+    (ap counts_of c.as_slice.ensures ∙ c.in_ok-resolved.ensures.parameters) (ap bodies_of c.as_slice.ensures
+    ∙ c.in_ok-resolved.ensures.routines)
 
 pub entry_of-entry-requires : goal.entry_of-entry-requires
 entry_of-entry-requires c =
     let program = c.args.program.now in
-    entry_small program.place.cores program.place.core (plain program.unit) program.valid c.in_ok-resolved.resolved.main c.in_ok-resolved.ensures.main
+    entry_small program.place.cores program.place.core (plain program.unit) program.valid c.in_ok-resolved.resolved.main
+    c.in_ok-resolved.ensures.main
 
 pub overflow_cast-result : goal.overflow_cast-result
 overflow_cast-result c =
     let program = c.args.program.now in
     let same = ap (λ items. (input_of (map plain_item items)).at) c.as_slice-items.ensures in
-    omega (arith, c.input_place-at.ensures.at, same, (input_small program.place.cores program.place.core (plain program.unit) program.valid).0)
+    omega (
+      arith,
+      c.input_place-at.ensures.at,
+      same,
+      (input_small program.place.cores program.place.core
+          (plain program.unit) program.valid).0,
+    )
 
 pub overflow_cast-result-2 : goal.overflow_cast-result-2
 overflow_cast-result-2 c =
     let program = c.args.program.now in
     let same = ap (λ items. (input_of (map plain_item items)).room) c.as_slice-items.ensures in
-    omega (arith, c.input_place-at.ensures.room, same, (input_small program.place.cores program.place.core (plain program.unit) program.valid).1)
+    omega (
+      arith,
+      c.input_place-at.ensures.room,
+      same,
+      (input_small program.place.cores program.place.core
+          (plain program.unit) program.valid).1,
+    )

@@ -6,4 +6,5 @@ use Rattle.single_path.proofs.units.weights.Given as goal
 
 abbrev pub invariant-loop-item : goal.invariant-loop-item
 invariant-loop-item l =
-    l.weights.items ++ map capped (weights_in (map plain_item (drop l.item-index l.items))) ≡ map capped (weights_in (map plain_item l.items))
+    l.weights.items ++ map capped (weights_in (map plain_item (drop l.item-index l.items)))
+    ≡ map capped (weights_in (map plain_item l.items))

@@ -6,8 +6,10 @@ use Rattle.single_path.proofs.widths.+width.Given as goal
 
 abbrev pub invariant-width_of-loop-action : goal.invariant-width_of-loop-action
 invariant-width_of-loop-action l = record {
-  variables : max l.most.variables (capped (words (actions_of (drop l.action-index l.actions)))) ≡ capped (words (actions_of l.actions));
-  masks : max l.most.masks (capped (masks (actions_of (drop l.action-index l.actions)))) ≡ capped (masks (actions_of l.actions));
+  variables : max l.most.variables (capped (words (actions_of (drop l.action-index l.actions))))
+      ≡ capped (words (actions_of l.actions));
+  masks : max l.most.masks (capped (masks (actions_of (drop l.action-index l.actions))))
+      ≡ capped (masks (actions_of l.actions));
 }
 
 abbrev pub decreases-one : goal.decreases-one

@@ -5,7 +5,8 @@ use Rattle.slot_arbiter.proofs.stamp.stamps_in_order.Goals as goal
 -- a later cycle is two half-cycles on, which is more than the phase and the core amount to
 pub returns-clause-by_cycle : goal.returns-clause-by_cycle
 returns-clause-by_cycle c = λ n a b q r p s act later.
-    let on : (2 * q + p + 1) * n ≤ (2 * r + s) * n = mul-le (2 * q + p + 1) n (2 * r + s) n (omega (arith, act.in_phase)) (omega arith) in
+    let on : (2 * q + p + 1) * n ≤ (2 * r + s) * n =
+    mul-le (2 * q + p + 1) n (2 * r + s) n (omega (arith, act.in_phase)) (omega arith) in
     omega (arith, act.among)
 
 -- equal stamps have one half-cycle and one core, and a half-cycle has one cycle and one phase

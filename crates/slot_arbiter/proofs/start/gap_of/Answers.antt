@@ -6,4 +6,5 @@ use Rattle.slot_arbiter.proofs.start.gap_of.Goals as goal
 pub longest_gap-requires-clause-owner : goal.longest_gap-requires-clause-owner
 longest_gap-requires-clause-owner c =
     let place = c.args.place.now in
-    ap (λ table. has_entry table place.core) c.as_slice.ensures.entries ∙ owner_has_entry place.cores place.core place.table place.owned place.in_range.among
+    ap (λ table. has_entry table place.core) c.as_slice.ensures.entries
+    ∙ owner_has_entry place.cores place.core place.table place.owned place.in_range.among

@@ -7,8 +7,11 @@ pub loop-first-preserved : goal.loop-first-preserved
 loop-first-preserved c = record {
   some = c.loop-first.invariant.some;
   within = omega (arith, c.max-longest.ensures, c.slots_to.ensures.within, c.loop-first.invariant.within);
-  most = more_waits (is_owned c.args.entries.now c.args.core) c.loop-first.first c.loop-first.longest c.slots_to.result c.max-longest.result c.max-longest.ensures c.slots_to.ensures.next c.loop-first.invariant.most;
-  reached = longer_reached (is_owned c.args.entries.now c.args.core) c.loop-first.first c.loop-first.longest c.slots_to.result c.max-longest.result c.max-longest.ensures c.slots_to.ensures.next c.loop-first.invariant.reached;
+  most = more_waits (is_owned c.args.entries.now c.args.core) c.loop-first.first c.loop-first.longest c.slots_to.result
+      c.max-longest.result c.max-longest.ensures c.slots_to.ensures.next c.loop-first.invariant.most;
+  reached = longer_reached (is_owned c.args.entries.now c.args.core) c.loop-first.first c.loop-first.longest
+      c.slots_to.result c.max-longest.result c.max-longest.ensures c.slots_to.ensures.next
+      c.loop-first.invariant.reached;
 }
 
 pub returns-clause-wait : goal.returns-clause-wait
@@ -18,4 +21,5 @@ returns-clause-wait c =
 
 pub returns-clause-gap : goal.returns-clause-gap
 returns-clause-gap c =
-    gap_from_waits c.args.entries.now c.args.core c.loop-first.longest c.loop-first.invariant.some (returns-clause-wait c) c.loop-first.invariant.reached
+    gap_from_waits c.args.entries.now c.args.core c.loop-first.longest c.loop-first.invariant.some
+    (returns-clause-wait c) c.loop-first.invariant.reached

@@ -5,12 +5,14 @@ use Rattle.slot_arbiter.proofs.start.next_start.Goals as goal
 pub returns-clause-next : goal.returns-clause-next
 returns-clause-next c =
     let edge = ceiling c.args.t c.args.slot c.div_ceil-first.result c.requires.slot_some c.div_ceil-first.ensures in
-    start_of_slot c.args.entries.now c.args.slot c.args.core c.args.t c.div_ceil-first.result (c.div_ceil-first.result + c.slots_to.result) edge c.slots_to.ensures.next
+    start_of_slot c.args.entries.now c.args.slot c.args.core c.args.t c.div_ceil-first.result
+    (c.div_ceil-first.result + c.slots_to.result) edge c.slots_to.ensures.next
 
 pub returns-clause-near : goal.returns-clause-near
 returns-clause-near c =
     let edge = ceiling c.args.t c.args.slot c.div_ceil-first.result c.requires.slot_some c.div_ceil-first.ensures in
-    start_near c.args.t c.args.slot c.div_ceil-first.result c.slots_to.result (length c.args.entries.now) edge c.slots_to.ensures.within
+    start_near c.args.t c.args.slot c.div_ceil-first.result c.slots_to.result (length c.args.entries.now) edge
+    c.slots_to.ensures.within
 
 pub returns-clause-bounded : goal.returns-clause-bounded
 returns-clause-bounded c =

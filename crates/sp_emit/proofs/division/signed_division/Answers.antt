@@ -6,4 +6,6 @@ use Rattle.sp_shape.specs.Shown.{parts_of}
 use Rattle.sp_emit.proofs.division.signed_division.Goals as goal
 
 pub returns : goal.returns
-returns c = subst (λ before. OnOk c.around.result (parts_of c.around.new.out.items ≡ joined (parts_of c.args.out.now.items) (specs.around before c.args.behind.now))) c.signed_operands.ensures c.around.ensures
+returns c = subst (λ before. OnOk c.around.result (parts_of c.around.new.out.items
+    ≡ joined (parts_of c.args.out.now.items) (specs.around before c.args.after.now))) c.signed_operands.ensures
+    c.around.ensures

@@ -7,5 +7,6 @@ use Rattle.sp_emit.proofs.flags.+hinders.Goals as goal
 
 pub statement_hinders-returns-in-Iterations : goal.statement_hinders-returns-in-Iterations
 statement_hinders-returns-in-Iterations t c =
-    let is = ap plain_stmt c.in-Iterations.is ∙ plain_iterations c.in-Iterations.count c.in-Iterations.body ∙ ap (λ ts. iterations c.in-Iterations.count (stmts_of ts)) (sym c.as_slice.ensures) in
+    let is = ap plain_stmt c.in-Iterations.is ∙ plain_iterations c.in-Iterations.count c.in-Iterations.body
+    ∙ ap (λ ts. iterations c.in-Iterations.count (stmts_of ts)) (sym c.as_slice.ensures) in
     c.statements_hinder.ensures ∙ ap (stmt_hinders c.args.flags) (sym is)

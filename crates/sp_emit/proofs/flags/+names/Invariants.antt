@@ -6,6 +6,7 @@ use Rattle.sp_emit.proofs.flags.+names.Given as goal
 
 abbrev pub invariant-statements_name-loop-t : goal.invariant-statements_name-loop-t
 invariant-statements_name-loop-t l = record {
-  so_far : capped (l.total + stmts_name l.slot (stmts_of (drop l.t-index l.stmts))) ≡ capped (stmts_name l.slot (stmts_of l.stmts));
+  so_far : capped (l.total + stmts_name l.slot (stmts_of (drop l.t-index l.stmts)))
+      ≡ capped (stmts_name l.slot (stmts_of l.stmts));
   fits : l.total < 2 ^ 32;
 }

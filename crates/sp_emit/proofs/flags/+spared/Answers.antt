@@ -7,5 +7,6 @@ use Rattle.sp_emit.proofs.flags.+spared.Goals as goal
 
 pub statement_spared-returns-in-Iterations : goal.statement_spared-returns-in-Iterations
 statement_spared-returns-in-Iterations t c =
-    let is = ap plain_stmt c.in-Iterations.is ∙ plain_iterations c.in-Iterations.count c.in-Iterations.body ∙ ap (λ ts. iterations c.in-Iterations.count (stmts_of ts)) (sym c.as_slice.ensures) in
+    let is = ap plain_stmt c.in-Iterations.is ∙ plain_iterations c.in-Iterations.count c.in-Iterations.body
+    ∙ ap (λ ts. iterations c.in-Iterations.count (stmts_of ts)) (sym c.as_slice.ensures) in
     c.statements_spared.ensures ∙ ap (stmt_spared c.args.tops.now) (sym is)

@@ -4,4 +4,5 @@ use Rattle.sp_emit.specs.Flags.{stmts_spoil}
 use Rattle.sp_emit.proofs.flags.+spoils.Given as goal
 
 abbrev pub invariant-statements_spoil-loop-t : goal.invariant-statements_spoil-loop-t
-invariant-statements_spoil-loop-t l = stmts_spoil l.mask l.slot (stmts_of (drop l.t-index l.stmts)) ≡ stmts_spoil l.mask l.slot (stmts_of l.stmts)
+invariant-statements_spoil-loop-t l =
+    stmts_spoil l.mask l.slot (stmts_of (drop l.t-index l.stmts)) ≡ stmts_spoil l.mask l.slot (stmts_of l.stmts)

@@ -7,4 +7,5 @@ pub loop-slot-preserved : goal.loop-slot-preserved
 loop-slot-preserved c =
     let f = plain_function c.args.f.now in
     let slot = c.loop-slot.slot in
-    c.next_choice-choice.ensures ∙ ap (λ choice. next_choice f choice slot) c.loop-slot.invariant ∙ ap (λ n. first_choice f n) (let e : suc slot ≡ slot + 1 = omega arith in e)
+    c.next_choice-choice.ensures ∙ ap (λ choice. next_choice f choice slot) c.loop-slot.invariant
+    ∙ ap (λ n. first_choice f n) (let e : suc slot ≡ slot + 1 = omega arith in e)

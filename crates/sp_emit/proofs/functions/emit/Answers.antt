@@ -12,7 +12,8 @@ use Rattle.sp_emit.proofs.Tasks.{task_does}
 use Rattle.sp_emit.proofs.functions.emit.Goals as goal
 
 pub returns-clause-formed : goal.returns-clause-formed
-returns-clause-formed c = formed_as (plain_shape c.in_ok-shape.shape) (plain_unit c.args.unit.now) c.in_ok-shape.ensures c.requires.formed
+returns-clause-formed c =
+    formed_as (plain_shape c.in_ok-shape.shape) (plain_unit c.args.unit.now) c.in_ok-shape.ensures c.requires.formed
 
 pub returns-clause-preserves : goal.returns-clause-preserves
 returns-clause-preserves c = λ input shared comm backs constants words.
@@ -21,16 +22,21 @@ returns-clause-preserves c = λ input shared comm backs constants words.
     (task_does u input shared comm backs c.requires.formed constants words)
 
 pub returns-clause-slots : goal.returns-clause-slots
-returns-clause-slots c = λ k below. idle_as (plain_shape c.in_ok-shape.shape) (plain_unit c.args.unit.now) c.in_ok-shape.ensures k below
+returns-clause-slots c =
+    λ k below. idle_as (plain_shape c.in_ok-shape.shape) (plain_unit c.args.unit.now) c.in_ok-shape.ensures k below
 
 pub returns-clause-alone : goal.returns-clause-alone
-returns-clause-alone c = λ k below. alone_as (plain_shape c.in_ok-shape.shape) (plain_unit c.args.unit.now) c.in_ok-shape.ensures k below
+returns-clause-alone c =
+    λ k below. alone_as (plain_shape c.in_ok-shape.shape) (plain_unit c.args.unit.now) c.in_ok-shape.ensures k below
 
 pub returns-clause-steady : goal.returns-clause-steady
-returns-clause-steady c = λ k below. steady_as (plain_shape c.in_ok-shape.shape) (plain_unit c.args.unit.now) c.in_ok-shape.ensures k below
+returns-clause-steady c =
+    λ k below. steady_as (plain_shape c.in_ok-shape.shape) (plain_unit c.args.unit.now) c.in_ok-shape.ensures k below
 
 pub returns-clause-frames : goal.returns-clause-frames
-returns-clause-frames c = λ k below. frames_as (plain_shape c.in_ok-shape.shape) (plain_unit c.args.unit.now) c.in_ok-shape.ensures c.requires.formed k below
+returns-clause-frames c = λ k below. frames_as (plain_shape c.in_ok-shape.shape) (plain_unit c.args.unit.now)
+    c.in_ok-shape.ensures c.requires.formed k below
 
 pub returns-clause-room : goal.returns-clause-room
-returns-clause-room c = λ k below. room_as (plain_shape c.in_ok-shape.shape) (plain_unit c.args.unit.now) c.in_ok-shape.ensures c.requires.formed k below
+returns-clause-room c = λ k below. room_as (plain_shape c.in_ok-shape.shape) (plain_unit c.args.unit.now)
+    c.in_ok-shape.ensures c.requires.formed k below

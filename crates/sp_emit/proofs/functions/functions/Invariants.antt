@@ -8,4 +8,5 @@ use Rattle.sp_emit.proofs.functions.functions.Given as goal
 
 abbrev pub invariant-loop-f : goal.invariant-loop-f
 invariant-loop-f l = (functions_of l.made.items ≡ functions_code (trees.functions_of l.fs) l.f-index)
-    × ((l.tops.items ≡ tops (trees.functions_of l.fs) l.f-index) × (l.spared.items ≡ flag_tops (trees.functions_of l.fs) l.f-index))
+    × ((l.tops.items ≡ tops (trees.functions_of l.fs) l.f-index)
+    × (l.spared.items ≡ flag_tops (trees.functions_of l.fs) l.f-index))

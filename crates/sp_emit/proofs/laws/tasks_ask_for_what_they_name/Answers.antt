@@ -9,4 +9,5 @@ pub returns-clause-asks : goal.returns-clause-asks
 returns-clause-asks c u formed = task_asks (Contains (uses_of u)) u formed (All-contains_itself (uses_of u))
 
 pub returns-clause-apart : goal.returns-clause-apart
-returns-clause-apart c uses width rd wide value address apart load store = cached_apart uses width rd wide value address apart load store
+returns-clause-apart c uses width rd wide value address apart load store =
+    cached_apart uses width rd wide value address apart load store

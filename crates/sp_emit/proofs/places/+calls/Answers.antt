@@ -7,5 +7,6 @@ use Rattle.sp_emit.proofs.places.+calls.Goals as goal
 
 pub has_call-returns-in-Iterations : goal.has_call-returns-in-Iterations
 has_call-returns-in-Iterations t c =
-    let is = ap plain_stmt c.in-Iterations.is ∙ plain_iterations c.in-Iterations.count c.in-Iterations.body ∙ ap (λ ts. iterations c.in-Iterations.count (stmts_of ts)) (sym c.as_slice.ensures) in
+    let is = ap plain_stmt c.in-Iterations.is ∙ plain_iterations c.in-Iterations.count c.in-Iterations.body
+    ∙ ap (λ ts. iterations c.in-Iterations.count (stmts_of ts)) (sym c.as_slice.ensures) in
     c.have_calls.ensures ∙ ap stmt_calls (sym is)

@@ -22,15 +22,24 @@ pub statement_least-statements_least-inner-requires : goal.statement_least-state
 statement_least-statements_least-inner-requires t c =
     let size = iterations_size c.args.t.now c.in-Iterations.count c.in-Iterations.body c.in-Iterations.is in
     let body = ap (λ ts. stmts_size (stmts_of ts)) c.as_slice-in-Iterations.ensures in
-    let is = ap plain_stmt c.in-Iterations.is ∙ plain_iterations c.in-Iterations.count c.in-Iterations.body ∙ ap (λ ts. iterations c.in-Iterations.count (stmts_of ts)) (sym c.as_slice-in-Iterations.ensures) in
-    (omega (arith, c.decreases, size, body), iterations_body c.in-Iterations.count (stmts_of c.as_slice-in-Iterations.result.now) (subst (StmtFits c.args.frame c.args.counter) is c.requires))
+    let is = ap plain_stmt c.in-Iterations.is ∙ plain_iterations c.in-Iterations.count c.in-Iterations.body
+    ∙ ap (λ ts. iterations c.in-Iterations.count (stmts_of ts)) (sym c.as_slice-in-Iterations.ensures) in (
+      omega (arith, c.decreases, size, body),
+      iterations_body c.in-Iterations.count
+          (stmts_of c.as_slice-in-Iterations.result.now) (subst (StmtFits c.args.frame c.args.counter) is c.requires),
+    )
 
 pub statement_least-returns-in-Iterations : goal.statement_least-returns-in-Iterations
 statement_least-returns-in-Iterations t c =
-    let is = ap plain_stmt c.in-Iterations.is ∙ plain_iterations c.in-Iterations.count c.in-Iterations.body ∙ ap (λ ts. iterations c.in-Iterations.count (stmts_of ts)) (sym c.as_slice-in-Iterations.ensures) in
-    c.max-in-Iterations.ensures ∙ ap (max FIRST) c.statements_least-inner.ensures ∙ ap (stmt_least c.args.tops.now) (sym is)
+    let is = ap plain_stmt c.in-Iterations.is ∙ plain_iterations c.in-Iterations.count c.in-Iterations.body
+    ∙ ap (λ ts. iterations c.in-Iterations.count (stmts_of ts)) (sym c.as_slice-in-Iterations.ensures) in
+    c.max-in-Iterations.ensures ∙ ap (max FIRST) c.statements_least-inner.ensures
+    ∙ ap (stmt_least c.args.tops.now) (sym is)
 
 pub statements_least-statement_least-requires : goal.statements_least-statement_least-requires
 statements_least-statement_least-requires t c =
-    let part = item_size c.args.body.now c.loop-t.t-index c.t-item.result (omega arith) c.t-item.is in
-    (omega (arith, c.decreases, part), item_fits c.args.body.now c.loop-t.t-index c.t-item.result (omega arith) c.t-item.is c.requires)
+    let part = item_size c.args.body.now c.loop-t.t-index c.t-item.result (omega arith) c.t-item.is in (
+      omega (arith, c.decreases, part),
+      item_fits c.args.body.now c.loop-t.t-index c.t-item.result
+          (omega arith) c.t-item.is c.requires,
+    )

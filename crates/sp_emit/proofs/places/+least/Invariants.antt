@@ -5,7 +5,8 @@ use Rattle.sp_emit.specs.Places.{stmts_least}
 use Rattle.sp_emit.proofs.places.+least.Given as goal
 
 abbrev pub invariant-statements_least-loop-t : goal.invariant-statements_least-loop-t
-invariant-statements_least-loop-t l = max l.least (stmts_least l.tops (stmts_of (drop l.t-index l.body))) ≡ stmts_least l.tops (stmts_of l.body)
+invariant-statements_least-loop-t l =
+    max l.least (stmts_least l.tops (stmts_of (drop l.t-index l.body))) ≡ stmts_least l.tops (stmts_of l.body)
 
 abbrev pub decreases-statement_least : goal.decreases-statement_least
 decreases-statement_least l = stmt_size (plain_stmt l.t.now)

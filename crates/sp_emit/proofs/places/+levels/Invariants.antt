@@ -5,4 +5,5 @@ use Rattle.sp_emit.specs.Places.{capped}
 use Rattle.sp_emit.proofs.places.+levels.Given as goal
 
 abbrev pub invariant-levels_of-loop-t : goal.invariant-levels_of-loop-t
-invariant-levels_of-loop-t l = max l.most (capped (stmts_levels (stmts_of (drop l.t-index l.stmts)))) ≡ capped (stmts_levels (stmts_of l.stmts))
+invariant-levels_of-loop-t l =
+    max l.most (capped (stmts_levels (stmts_of (drop l.t-index l.stmts)))) ≡ capped (stmts_levels (stmts_of l.stmts))

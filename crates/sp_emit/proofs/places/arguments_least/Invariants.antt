@@ -8,4 +8,5 @@ use Rattle.sp_emit.proofs.places.arguments_least.Given as goal
 abbrev pub invariant-loop-e : goal.invariant-loop-e
 invariant-loop-e l =
     ArgsFit (map plain_sp (drop l.e-index l.args)) l.rd
-    × ((l.rd ≤ l.least) × (max l.least (args_least (map plain_sp (drop l.e-index l.args)) l.rd) ≡ args_least (map plain_sp l.args) FIRST))
+    × ((l.rd ≤ l.least) × (max l.least (args_least (map plain_sp (drop l.e-index l.args)) l.rd)
+    ≡ args_least (map plain_sp l.args) FIRST))

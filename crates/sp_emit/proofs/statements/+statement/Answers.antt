@@ -18,33 +18,45 @@ statement-arguments-requires t c =
     let stated = subst (λ x. StmtFits c.args.frame c.args.counter (plain_stmt x)) c.in-Call.is c.requires.fits in
     let fits = calls_args c.in-Call.mask c.in-Call.function (map plain_sp c.in-Call.args) c.in-Call.result stated in
     record {
-      fits = subst (λ r. ArgsFit (map plain_sp c.as_slice.result.now) r) (sym c.reg.ensures) (subst (λ es. ArgsFit (map plain_sp es) 3) (sym c.as_slice.ensures) fits);
+      fits = subst (λ r. ArgsFit (map plain_sp c.as_slice.result.now) r) (sym c.reg.ensures)
+          (subst (λ es. ArgsFit (map plain_sp es) 3) (sym c.as_slice.ensures) fits);
     }
 
 pub statement-iterations-requires : goal.statement-iterations-requires
 statement-iterations-requires t c =
     let size = iterations_size c.args.t.now c.in-Iterations.count c.in-Iterations.body c.in-Iterations.is in
     let body = ap (λ ts. stmts_size (stmts_of ts)) c.as_slice-in-Iterations.ensures in
-    let is = ap plain_stmt c.in-Iterations.is ∙ plain_iterations c.in-Iterations.count c.in-Iterations.body ∙ ap (λ ts. iterations c.in-Iterations.count (stmts_of ts)) (sym c.as_slice-in-Iterations.ensures) in
+    let is = ap plain_stmt c.in-Iterations.is ∙ plain_iterations c.in-Iterations.count c.in-Iterations.body
+    ∙ ap (λ ts. iterations c.in-Iterations.count (stmts_of ts)) (sym c.as_slice-in-Iterations.ensures) in
     (omega (arith, c.decreases, size, body), subst (StmtFits c.args.frame c.args.counter) is c.requires.fits)
 
 pub statement-returns-in-Iterations : goal.statement-returns-in-Iterations
 statement-returns-in-Iterations t c =
-    let is = ap plain_stmt c.in-Iterations.is ∙ plain_iterations c.in-Iterations.count c.in-Iterations.body ∙ ap (λ ts. iterations c.in-Iterations.count (stmts_of ts)) (sym c.as_slice-in-Iterations.ensures) in
-    subst (λ s. OnOk c.iterations.result (parts_of c.iterations.new.out.items ≡ joined (parts_of c.args.out.now.items) (stmt_code c.args.homes c.args.frame c.args.counter s))) (sym is) c.iterations.ensures
+    let is = ap plain_stmt c.in-Iterations.is ∙ plain_iterations c.in-Iterations.count c.in-Iterations.body
+    ∙ ap (λ ts. iterations c.in-Iterations.count (stmts_of ts)) (sym c.as_slice-in-Iterations.ensures) in
+    subst (λ s. OnOk c.iterations.result (parts_of c.iterations.new.out.items
+    ≡ joined (parts_of c.args.out.now.items) (stmt_code c.args.homes c.args.frame c.args.counter s)))
+    (sym is) c.iterations.ensures
 
 pub statements-statement-requires : goal.statements-statement-requires
 statements-statement-requires t c =
-    let part = item_size c.args.body.now c.loop-t.t-index c.t-item.result (omega arith) c.t-item.is in
-    (omega (arith, c.decreases, part), item_fits c.args.body.now c.loop-t.t-index c.t-item.result (omega arith) c.t-item.is c.requires.fits)
+    let part = item_size c.args.body.now c.loop-t.t-index c.t-item.result (omega arith) c.t-item.is in (
+      omega (arith, c.decreases, part),
+      item_fits c.args.body.now c.loop-t.t-index c.t-item.result
+          (omega arith) c.t-item.is c.requires.fits,
+    )
 
 pub statements-loop-t-preserved : goal.statements-loop-t-preserved
 statements-loop-t-preserved t c =
-    statement_added c.args.homes c.args.frame c.args.counter c.args.body.now c.loop-t.t-index c.t-item.result (parts_of c.loop-t.out.items) (parts_of c.statement.new.out.items)
-    (joined (parts_of c.args.out.now.items) (stmts_code c.args.homes c.args.frame c.args.counter (stmts_of c.args.body.now)))
+    statement_added c.args.homes c.args.frame c.args.counter c.args.body.now c.loop-t.t-index c.t-item.result
+    (parts_of c.loop-t.out.items) (parts_of c.statement.new.out.items)
+    (joined (parts_of c.args.out.now.items) (stmts_code c.args.homes c.args.frame c.args.counter
+    (stmts_of c.args.body.now)))
     (omega arith) c.t-item.is c.loop-t.invariant c.in_ok-statement.ensures
 
 pub statements-returns : goal.statements-returns
 statements-returns t c =
-    statements_done c.args.homes c.args.frame c.args.counter c.args.body.now c.loop-t.t-index (parts_of c.loop-t.out.items)
-    (joined (parts_of c.args.out.now.items) (stmts_code c.args.homes c.args.frame c.args.counter (stmts_of c.args.body.now))) (omega arith) c.loop-t.invariant
+    statements_done c.args.homes c.args.frame c.args.counter c.args.body.now c.loop-t.t-index
+    (parts_of c.loop-t.out.items)
+    (joined (parts_of c.args.out.now.items) (stmts_code c.args.homes c.args.frame c.args.counter
+    (stmts_of c.args.body.now))) (omega arith) c.loop-t.invariant

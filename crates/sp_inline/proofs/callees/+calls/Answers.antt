@@ -12,10 +12,12 @@ calls_of-statement-calls-requires t c =
 
 pub statement-calls_of-requires : goal.statement-calls_of-requires
 statement-calls_of-requires t c =
-    let size = ap stmt_size (iterations_is c.args.t.now c.in-Iterations.count c.in-Iterations.body c.as_slice.result.now c.in-Iterations.is c.as_slice.ensures) in
+    let size = ap stmt_size (iterations_is c.args.t.now c.in-Iterations.count c.in-Iterations.body c.as_slice.result.now
+    c.in-Iterations.is c.as_slice.ensures) in
     (omega (arith, c.decreases, size), tt)
 
 pub statement-returns-in-Iterations : goal.statement-returns-in-Iterations
 statement-returns-in-Iterations t c =
     subst (λ a. c.calls_of.result ≡ stmt_calls a)
-    (iterations_is c.args.t.now c.in-Iterations.count c.in-Iterations.body c.as_slice.result.now c.in-Iterations.is c.as_slice.ensures) c.calls_of.ensures
+    (iterations_is c.args.t.now c.in-Iterations.count c.in-Iterations.body c.as_slice.result.now c.in-Iterations.is
+    c.as_slice.ensures) c.calls_of.ensures

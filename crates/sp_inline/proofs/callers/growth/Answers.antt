@@ -14,6 +14,7 @@ returns c = λ o.
     let less = shortened (plain_function m.function) in
     let cost = m.kept_cost_is ∙ ap (λ b. capped (stmts_cost (entered b less.body))) m.tests_are in
     let own = c.mask_cost.ensures.cost call.mask ∙ ap (λ b. expr_cost (call_mask b call.mask)) m.tests_are in
-    let same = grown o call.mask less call.args.now call.result m.words m.kept_cost c.mask_cost.result c.given_cost.result (m.words_are ∙ sym (short_slots (plain_function m.function)))
+    let same = grown o call.mask less call.args.now call.result m.words m.kept_cost c.mask_cost.result
+    c.given_cost.result (m.words_are ∙ sym (short_slots (plain_function m.function)))
     cost own (c.given_cost.ensures.cost call.mask (o + m.function.result)) c.requires.few c.requires.mask in
     omega (arith, c.min.ensures, c.saturating_sub.ensures, c.saturating_add.ensures, c.from.ensures, same)

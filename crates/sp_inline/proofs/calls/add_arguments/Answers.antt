@@ -11,10 +11,13 @@ loop-k-preserved c =
     let old = stmts_of c.loop-k.out.items in
     let value : plain_sp c.in_ok-value.value ≡ plain_sp c.index-args-k.result = search rules in
     next_argument c.args.place c.loop-k.k c.args.args.now c.index-args-k.result old (stmts_of c.add_mask.new.out.items)
-    (joined (stmts_of c.args.out.now.items) (begun_words c.args.place (length c.args.args.now) (map plain_sp c.args.args.now)))
-    (omega arith) c.index-args-k.is (c.in_ok-add_mask.ensures ∙ ap (λ e. joined old (one (masks (c.args.place + c.loop-k.k) e))) value) c.loop-k.invariant
+    (joined (stmts_of c.args.out.now.items) (begun_words c.args.place (length c.args.args.now)
+    (map plain_sp c.args.args.now)))
+    (omega arith) c.index-args-k.is (c.in_ok-add_mask.ensures
+    ∙ ap (λ e. joined old (one (masks (c.args.place + c.loop-k.k) e))) value) c.loop-k.invariant
 
 pub returns : goal.returns
 returns c =
     no_argument c.args.place c.loop-k.k c.args.args.now (stmts_of c.loop-k.out.items)
-    (joined (stmts_of c.args.out.now.items) (begun_words c.args.place (length c.args.args.now) (map plain_sp c.args.args.now))) (omega arith) c.loop-k.invariant
+    (joined (stmts_of c.args.out.now.items) (begun_words c.args.place (length c.args.args.now)
+    (map plain_sp c.args.args.now))) (omega arith) c.loop-k.invariant

@@ -15,14 +15,23 @@ add_moved-requires c =
     let m = c.args.callee.now in
     let less = short_body m.function.result (stmts_of m.function.body) in
     let statements = ap stmts_reach c.statements.ensures in
-    omega (arith, c.requires.room, c.requires.reach, statements, entered_reach m.tests less, short_reach m.function.result (stmts_of m.function.body))
+    omega (
+      arith,
+      c.requires.room,
+      c.requires.reach,
+      statements,
+      entered_reach m.tests less,
+      short_reach m.function.result (stmts_of m.function.body),
+    )
 
 pub returns : goal.returns
 returns c =
     let call = c.args.call.now in
     let m = c.args.callee.now in
     let f = plain_function m.function in
-    on_done c.add_given.result (λ last. call_added c.args.place call.mask m.words m.tests (shortened f) (args_of call) call.result
+    on_done c.add_given.result (λ last. call_added c.args.place call.mask m.words m.tests (shortened f)
+    (args_of call) call.result
     (stmts_of c.args.out.now.items) (stmts_of c.add_begun.new.out.items) (stmts_of c.add_moved.new.out.items)
     (stmts_of c.add_given.new.out.items) (m.words_are ∙ sym (short_slots f)) m.tests_are c.in_ok-add_begun.ensures
-    (c.in_ok-add_moved.ensures ∙ ap (λ ts. joined (stmts_of c.add_begun.new.out.items) (stmts_moved c.args.place ts)) c.statements.ensures) last) c.add_given.ensures
+    (c.in_ok-add_moved.ensures ∙ ap (λ ts. joined (stmts_of c.add_begun.new.out.items) (stmts_moved c.args.place ts))
+    c.statements.ensures) last) c.add_given.ensures

@@ -12,10 +12,12 @@ levels_of-statement-levels-requires t c =
 
 pub statement-levels_of-requires : goal.statement-levels_of-requires
 statement-levels_of-requires t c =
-    let size = ap stmt_size (iterations_is c.args.t.now c.in-Iterations.count c.in-Iterations.body c.as_slice.result.now c.in-Iterations.is c.as_slice.ensures) in
+    let size = ap stmt_size (iterations_is c.args.t.now c.in-Iterations.count c.in-Iterations.body c.as_slice.result.now
+    c.in-Iterations.is c.as_slice.ensures) in
     (omega (arith, c.decreases, size), tt)
 
 pub statement-returns-in-Iterations : goal.statement-returns-in-Iterations
 statement-returns-in-Iterations t c =
-    let same = ap stmt_levels (iterations_is c.args.t.now c.in-Iterations.count c.in-Iterations.body c.as_slice.result.now c.in-Iterations.is c.as_slice.ensures) in
+    let same = ap stmt_levels (iterations_is c.args.t.now c.in-Iterations.count c.in-Iterations.body
+    c.as_slice.result.now c.in-Iterations.is c.as_slice.ensures) in
     c.saturating_add.ensures ∙ (omega (arith, same, c.levels_of.ensures))

@@ -6,7 +6,8 @@ use Rattle.sp_inline.specs.Capped.{capped}
 use Rattle.sp_inline.proofs.levels.+levels.Given as goal
 
 abbrev pub invariant-levels_of-loop-t : goal.invariant-levels_of-loop-t
-invariant-levels_of-loop-t l = max l.most (capped (stmts_levels (stmts_of (drop l.t-index l.body)))) ≡ capped (stmts_levels (stmts_of l.body))
+invariant-levels_of-loop-t l =
+    max l.most (capped (stmts_levels (stmts_of (drop l.t-index l.body)))) ≡ capped (stmts_levels (stmts_of l.body))
 
 abbrev pub decreases-statement : goal.decreases-statement
 decreases-statement l = stmt_size (plain_stmt l.t.now)

@@ -11,7 +11,8 @@ use Rattle.sp_inline.proofs.moves.+moving.Goals as goal
 
 pub moved_statement-moved_iterations-requires : goal.moved_statement-moved_iterations-requires
 moved_statement-moved_iterations-requires t c =
-    let same = iterations_is c.args.t.now c.in-Iterations.count c.in-Iterations.body c.as_slice-in-Iterations.result.now c.in-Iterations.is c.as_slice-in-Iterations.ensures in
+    let same = iterations_is c.args.t.now c.in-Iterations.count c.in-Iterations.body c.as_slice-in-Iterations.result.now
+    c.in-Iterations.is c.as_slice-in-Iterations.ensures in
     let size = ap stmt_size same in
     let reach = ap stmt_reach same in
     (omega (arith, c.decreases, size), omega (arith, c.requires, reach))
@@ -19,7 +20,8 @@ moved_statement-moved_iterations-requires t c =
 pub moved_statement-returns-in-Iterations : goal.moved_statement-returns-in-Iterations
 moved_statement-returns-in-Iterations t c =
     subst (λ a. IfOk c.moved_iterations.result (λ m. plain_stmt m ≡ stmt_moved c.args.place a))
-    (iterations_is c.args.t.now c.in-Iterations.count c.in-Iterations.body c.as_slice-in-Iterations.result.now c.in-Iterations.is c.as_slice-in-Iterations.ensures) c.moved_iterations.ensures
+    (iterations_is c.args.t.now c.in-Iterations.count c.in-Iterations.body c.as_slice-in-Iterations.result.now
+    c.in-Iterations.is c.as_slice-in-Iterations.ensures) c.moved_iterations.ensures
 
 pub add_moved-moved_statement-requires : goal.add_moved-moved_statement-requires
 add_moved-moved_statement-requires t c =
@@ -29,5 +31,6 @@ add_moved-moved_statement-requires t c =
 
 pub add_moved-returns : goal.add_moved-returns
 add_moved-returns t c =
-    none_moved c.args.place (stmts_of c.loop-t.out.items) (joined (stmts_of c.args.out.now.items) (stmts_moved c.args.place (stmts_of c.args.body.now)))
+    none_moved c.args.place (stmts_of c.loop-t.out.items) (joined (stmts_of c.args.out.now.items)
+    (stmts_moved c.args.place (stmts_of c.args.body.now)))
     c.args.body.now c.loop-t.t-index (omega arith) c.loop-t.invariant

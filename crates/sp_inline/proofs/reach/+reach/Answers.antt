@@ -12,10 +12,12 @@ reach_of-statement-words-requires t c =
 
 pub statement-reach_of-requires : goal.statement-reach_of-requires
 statement-reach_of-requires t c =
-    let size = ap stmt_size (iterations_is c.args.t.now c.in-Iterations.count c.in-Iterations.body c.as_slice-in-Iterations.result.now c.in-Iterations.is c.as_slice-in-Iterations.ensures) in
+    let size = ap stmt_size (iterations_is c.args.t.now c.in-Iterations.count c.in-Iterations.body
+    c.as_slice-in-Iterations.result.now c.in-Iterations.is c.as_slice-in-Iterations.ensures) in
     (omega (arith, c.decreases, size), tt)
 
 pub statement-returns-in-Iterations : goal.statement-returns-in-Iterations
 statement-returns-in-Iterations t c =
     subst (λ a. c.reach_of.result ≡ stmt_reach a)
-    (iterations_is c.args.t.now c.in-Iterations.count c.in-Iterations.body c.as_slice-in-Iterations.result.now c.in-Iterations.is c.as_slice-in-Iterations.ensures) c.reach_of.ensures
+    (iterations_is c.args.t.now c.in-Iterations.count c.in-Iterations.body c.as_slice-in-Iterations.result.now
+    c.in-Iterations.is c.as_slice-in-Iterations.ensures) c.reach_of.ensures

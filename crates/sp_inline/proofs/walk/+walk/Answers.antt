@@ -16,7 +16,8 @@ take_statement-keep-requires t c = omega (arith, c.requires.words, c.requires.wo
 
 pub take_statement-take_call-requires : goal.take_statement-take_call-requires
 take_statement-take_call-requires t c = record {
-  call = call_is c.args.t.now c.in-Call.mask c.in-Call.function c.in-Call.args c.as_slice.result.now c.in-Call.given c.in-Call.is c.as_slice.ensures;
+  call = call_is c.args.t.now c.in-Call.mask c.in-Call.function c.in-Call.args c.as_slice.result.now c.in-Call.given
+      c.in-Call.is c.as_slice.ensures;
   words = c.requires.words;
   word = c.requires.word;
   frame = c.requires.frame;
@@ -29,22 +30,33 @@ take_statement-overflow_add-depth t c =
 
 pub take_statement-take_statements-requires : goal.take_statement-take_statements-requires
 take_statement-take_statements-requires t c =
-    let same = iterations_is c.args.t.now c.in-Iterations.count c.in-Iterations.body c.as_slice-in-Iterations.result.now c.in-Iterations.is c.as_slice-in-Iterations.ensures in
+    let same = iterations_is c.args.t.now c.in-Iterations.count c.in-Iterations.body c.as_slice-in-Iterations.result.now
+    c.in-Iterations.is c.as_slice-in-Iterations.ensures in
     let size = ap stmt_size same in
     let level = ap stmt_levels same in
-    let reach = ap stmt_reach same in
-    (omega (arith, c.decreases, size), (omega (arith, c.requires.levels, level), (omega (arith, c.requires.words, reach), (c.requires.word, c.requires.frame))))
+    let reach = ap stmt_reach same in (
+      omega (arith, c.decreases, size),
+      (
+        omega (arith, c.requires.levels, level),
+        (omega (arith, c.requires.words, reach), (c.requires.word, c.requires.frame)),
+      ),
+    )
 
 pub take_statement-returns-in_ok-add_iterations-in-Iterations : goal.take_statement-returns-in_ok-add_iterations-in-Iterations
 take_statement-returns-in_ok-add_iterations-in-Iterations t c =
     let caller = plain_caller c.args.caller.now in
     let old = stmts_of c.args.out.now.items in
     let body = c.as_slice-in-Iterations.result.now in
-    let same = iterations_is c.args.t.now c.in-Iterations.count c.in-Iterations.body body c.in-Iterations.is c.as_slice-in-Iterations.ensures in
-    iterations_taken caller c.args.depth c.args.room c.in_ok-after-in-Iterations.after c.args.t.now c.in-Iterations.count body old (stmts_of c.take_statements.new.out.items)
+    let same = iterations_is c.args.t.now c.in-Iterations.count c.in-Iterations.body body c.in-Iterations.is
+    c.as_slice-in-Iterations.ensures in
+    iterations_taken caller c.args.depth c.args.room c.in_ok-after-in-Iterations.after c.args.t.now
+    c.in-Iterations.count body old (stmts_of c.take_statements.new.out.items)
     (stmts_of c.add_iterations.new.out.items) same
-    (c.in_ok-after-in-Iterations.ensures ∙ ap (λ xs. taken_after (stmts_of xs) (stmts_taken caller (c.args.depth + 1) c.args.room (stmts_of body))) c.new-inside.ensures.items)
-    (c.in_ok-add_iterations-in-Iterations.ensures ∙ ap (λ xs. joined old (one (iterations c.in-Iterations.count (stmts_of xs)))) c.of.ensures)
+    (c.in_ok-after-in-Iterations.ensures
+    ∙ ap (λ xs. taken_after (stmts_of xs) (stmts_taken caller (c.args.depth + 1) c.args.room (stmts_of body)))
+    c.new-inside.ensures.items)
+    (c.in_ok-add_iterations-in-Iterations.ensures
+    ∙ ap (λ xs. joined old (one (iterations c.in-Iterations.count (stmts_of xs)))) c.of.ensures)
 
 pub take_statements-loop-t-init : goal.take_statements-loop-t-init
 take_statements-loop-t-init t c = record { so_far = refl; levels = omega arith }
@@ -70,17 +82,22 @@ take_statements-loop-t-preserved t c =
     let old = stmts_of c.loop-t.out.items in
     let new = stmts_of c.take_statement.new.out.items in
     let level = level_part c.args.body.now c.loop-t.t-index c.t-item.result (omega arith) c.t-item.is in
-    let grows = level_kept caller c.args.depth c.loop-t.left c.in_ok-left.left (plain_stmt c.t-item.result) old new c.in_ok-left.ensures
+    let grows = level_kept caller c.args.depth c.loop-t.left c.in_ok-left.left (plain_stmt c.t-item.result) old new
+    c.in_ok-left.ensures
     (omega (arith, c.requires.levels, level, c.loop-t.invariant.levels)) in
     record {
-      so_far = next_taken caller c.args.depth c.loop-t.left c.in_ok-left.left c.args.body.now c.loop-t.t-index c.t-item.result old new
-          (taken_after (stmts_of c.args.out.now.items) (stmts_taken caller c.args.depth c.args.room (stmts_of c.args.body.now))) (omega arith) c.t-item.is
+      so_far = next_taken caller c.args.depth c.loop-t.left c.in_ok-left.left c.args.body.now c.loop-t.t-index
+          c.t-item.result old new
+          (taken_after (stmts_of c.args.out.now.items) (stmts_taken caller c.args.depth c.args.room
+          (stmts_of c.args.body.now))) (omega arith) c.t-item.is
           c.in_ok-left.ensures c.loop-t.invariant.so_far;
       levels = omega (arith, grows, c.loop-t.invariant.levels);
     }
 
 pub take_statements-returns : goal.take_statements-returns
 take_statements-returns t c =
-    none_taken (plain_caller c.args.caller.now) c.args.depth c.loop-t.left c.args.body.now c.loop-t.t-index (stmts_of c.loop-t.out.items)
-    (taken_after (stmts_of c.args.out.now.items) (stmts_taken (plain_caller c.args.caller.now) c.args.depth c.args.room (stmts_of c.args.body.now))) (omega arith)
+    none_taken (plain_caller c.args.caller.now) c.args.depth c.loop-t.left c.args.body.now c.loop-t.t-index
+    (stmts_of c.loop-t.out.items)
+    (taken_after (stmts_of c.args.out.now.items) (stmts_taken (plain_caller c.args.caller.now) c.args.depth c.args.room
+    (stmts_of c.args.body.now))) (omega arith)
     c.loop-t.invariant.so_far

@@ -7,8 +7,10 @@ use Rattle.sp_inline.proofs.walk.+walk.Given as goal
 
 abbrev pub invariant-take_statements-loop-t : goal.invariant-take_statements-loop-t
 invariant-take_statements-loop-t l = record {
-  so_far : taken_after (stmts_of l.out.items) (stmts_taken (plain_caller l.caller) l.depth l.left (stmts_of (drop l.t-index l.body)))
-      ≡ taken_after (stmts_of l.initial.out.items) (stmts_taken (plain_caller l.caller) l.depth l.fn.room (stmts_of l.body));
+  so_far : taken_after (stmts_of l.out.items) (stmts_taken (plain_caller l.caller) l.depth l.left
+      (stmts_of (drop l.t-index l.body)))
+      ≡ taken_after (stmts_of l.initial.out.items) (stmts_taken (plain_caller l.caller) l.depth l.fn.room
+      (stmts_of l.body));
   levels : l.fn.room.levels ≤ l.left.levels;
 }
 

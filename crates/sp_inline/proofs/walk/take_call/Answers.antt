@@ -15,7 +15,8 @@ add_call-requires c =
     let m = c.in-Some.callee.now in
     let call = c.args.call.now in
     let f = callee caller call.function in
-    let chosen : is_taken caller c.args.depth c.args.room call.function (statements_for caller.words f call) (args_of call) ≡ true = search rules in
+    let chosen : is_taken caller c.args.depth c.args.room call.function (statements_for caller.words f call)
+    (args_of call) ≡ true = search rules in
     let same : plain_function m.function ≡ f = search rules in
     let k = callable caller c.args.depth c.args.room m call c.requires.frame chosen same in
     record { room = k.room; few = k.few; reach = k.reach; mask = k.mask; result = k.result }
@@ -26,7 +27,8 @@ returns-in-None c =
     let call = c.args.call.now in
     let more = statements_for caller.words (callee caller call.function) call in
     let away : is_taken caller c.args.depth c.args.room call.function more (args_of call) ≡ false = search rules in
-    subst (λ x. IfOk c.keep.result (λ r. with_room (stmts_of c.keep.new.out.items) r ≡ taken_after (stmts_of c.args.out.now.items) x))
+    subst (λ x. IfOk c.keep.result (λ r. with_room (stmts_of c.keep.new.out.items) r
+    ≡ taken_after (stmts_of c.args.out.now.items) x))
     (sym (call_stays caller c.args.depth c.args.room c.args.t.now call c.requires.call away)) c.keep.ensures
 
 pub returns-in_ok-add_call-in-Some : goal.returns-in_ok-add_call-in-Some
@@ -39,5 +41,6 @@ returns-in_ok-add_call-in-Some c =
     let chosen : is_taken caller c.args.depth c.args.room call.function more (args_of call) ≡ true = search rules in
     let same : plain_function m.function ≡ f = search rules in
     let room : c.in-Some.after ≡ room_after caller c.args.depth c.args.room f more (args_of call) = search rules in
-    call_taken_in caller c.args.depth c.args.room c.in-Some.after c.args.t.now call (plain_function m.function) (stmts_of c.args.out.now.items)
+    call_taken_in caller c.args.depth c.args.room c.in-Some.after c.args.t.now call (plain_function m.function)
+    (stmts_of c.args.out.now.items)
     (stmts_of c.add_call.new.out.items) c.requires.call chosen same room c.in_ok-add_call-in-Some.ensures

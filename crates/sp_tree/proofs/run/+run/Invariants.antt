@@ -12,7 +12,8 @@ use Rattle.sp_tree.proofs.run.+run.Given as goal
 abbrev pub invariant-all-loop-t : goal.invariant-all-loop-t
 invariant-all-loop-t l = record {
   reaches : (sends : List Sending) → Reaches
-      (stmts_done (serves (functions_of l.functions) l.known) (stmts_of l.stmts) (state_of l.initial.frame l.initial.memory sends))
+      (stmts_done (serves (functions_of l.functions) l.known) (stmts_of l.stmts)
+      (state_of l.initial.frame l.initial.memory sends))
       (stmts_done (serves (functions_of l.functions) l.known) (stmts_of (drop l.t-index l.stmts))) l.frame l.memory;
   rooms : rooms l.memory ≡ all_rooms;
 }
@@ -20,8 +21,10 @@ invariant-all-loop-t l = record {
 abbrev pub invariant-iterations-loop-iterated : goal.invariant-iterations-loop-iterated
 invariant-iterations-loop-iterated l = record {
   reaches : (sends : List Sending) → Reaches
-      (times l.count (stmts_done (serves (functions_of l.functions) l.known) (stmts_of l.body)) (state_of l.initial.frame l.initial.memory sends))
-      (times (l.count - l.iterated) (stmts_done (serves (functions_of l.functions) l.known) (stmts_of l.body))) l.frame l.memory;
+      (times l.count (stmts_done (serves (functions_of l.functions) l.known) (stmts_of l.body))
+      (state_of l.initial.frame l.initial.memory sends))
+      (times (l.count - l.iterated) (stmts_done (serves (functions_of l.functions) l.known) (stmts_of l.body)))
+      l.frame l.memory;
   rooms : rooms l.memory ≡ all_rooms;
 }
 

@@ -5,4 +5,5 @@ use Rattle.sp_tree.proofs.settings.begin_frame.Goals as goal
 
 pub returns : goal.returns
 returns c = λ sends.
-    words_put c.pass.new.own c.args.function.now.mask c.args.mask (omega arith) ∙ ap (put c.args.function.now.mask c.args.mask) (c.pass.ensures sends)
+    words_put c.pass.new.own c.args.function.now.mask c.args.mask (omega arith)
+    ∙ ap (put c.args.function.now.mask c.args.mask) (c.pass.ensures sends)

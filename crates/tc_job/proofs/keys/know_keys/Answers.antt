@@ -15,10 +15,12 @@ returns-then-not-has c =
     let e : Entry = (c.in-Some.key.now, c.in-Some._value.now) in
     let here : c.keys.key-iterator ≡ e ∷ c.next.new.self = grind (arith, common_steps) in
     let unknown : is_key c.args.level c.as_str.result.now ≡ false = grind (arith, common_steps) in
-    fails_reported _ _ _ c.fault.result (known_keys c.args.level c.args.section.now.task (members_view c.args.section.now.table.now.entries)) c.fault.ensures
+    fails_reported _ _ _ c.fault.result (known_keys c.args.level c.args.section.now.task
+    (members_view c.args.section.now.table.now.entries)) c.fault.ensures
     (rw c.as_str-then-not-has.ensures.value
     (sym same ∙ ap (λ es. known_keys c.args.level c.args.section.now.task (members_view es)) here
-    ∙ unknown_key (is_key c.args.level) c.args.section.now.task e c.next.new.self (subst (λ es. IsStrictlySortedBy string_cmp (keys_of es)) here sorted) (rw c.as_str.ensures.value at unknown)))
+    ∙ unknown_key (is_key c.args.level) c.args.section.now.task e c.next.new.self (subst
+    (λ es. IsStrictlySortedBy string_cmp (keys_of es)) here sorted) (rw c.as_str.ensures.value at unknown)))
 
 pub keys-preserved : goal.keys-preserved
 keys-preserved c =
@@ -28,6 +30,8 @@ keys-preserved c =
     let known : is_key c.args.level c.as_str.result.now ≡ true = grind (arith, common_steps) in (
       tt,
       tt,
-      sym (ap (λ es. known_keys c.args.level c.args.section.now.task (members_view es)) here ∙ known_key (is_key c.args.level) c.args.section.now.task e c.next.new.self (rw c.as_str.ensures.value at known)) ∙ same,
+      sym (ap (λ es. known_keys c.args.level c.args.section.now.task (members_view es)) here
+          ∙ known_key (is_key c.args.level) c.args.section.now.task e c.next.new.self (rw c.as_str.ensures.value at
+          known)) ∙ same,
       later_keys e c.next.new.self (subst (λ es. IsStrictlySortedBy string_cmp (keys_of es)) here sorted),
     )

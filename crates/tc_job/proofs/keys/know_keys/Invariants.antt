@@ -10,5 +10,6 @@ abbrev pub invariant-keys : goal.invariant-keys
 invariant-keys l =
     (goal.iterator-keys).can_next l.key-iterator
     × (goal.iterator-keys).is_finite l.key-iterator
-    × (known_keys l.level l.section.task (members_view l.key-iterator) ≡ known_keys l.level l.section.task (members_view l.section.table.now.entries))
+    × (known_keys l.level l.section.task (members_view l.key-iterator)
+    ≡ known_keys l.level l.section.task (members_view l.section.table.now.entries))
     × IsStrictlySortedBy string_cmp (keys_of l.key-iterator)

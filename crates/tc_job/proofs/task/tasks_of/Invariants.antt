@@ -7,7 +7,8 @@ use Rattle.tc_job.proofs.task.tasks_of.Given as goal
 
 abbrev pub invariant-loop-table : goal.invariant-loop-table
 invariant-loop-table l = record {
-  read : tasks_from l.cores l.tasks.items (map (λ t. table_view t.now) (drop l.table-index l.tables)) ≡ tasks_from l.cores [] (map (λ t. table_view t.now) l.tables);
+  read : tasks_from l.cores l.tasks.items (map (λ t. table_view t.now) (drop l.table-index l.tables))
+      ≡ tasks_from l.cores [] (map (λ t. table_view t.now) l.tables);
   taken : l.taken.keys ≡ cores_of l.tasks.items;
   apart : IsDistinct nat_eq l.taken.keys;
   among : All (IsTaskAmong l.cores) l.tasks.items;

@@ -14,7 +14,8 @@ use Rattle.tc_link.proofs.images.link.Goals as goal
 
 pub of-requires : goal.of-requires
 of-requires c =
-    image_so (plain_shape c.args.shape.now) c.in_ok-words.words c.in_ok-words.starts c.of-initial.result c.in_ok-words.ensures.words c.in_ok-words.ensures.starts
+    image_so (plain_shape c.args.shape.now) c.in_ok-words.words c.in_ok-words.starts c.of-initial.result
+    c.in_ok-words.ensures.words c.in_ok-words.ensures.starts
     (search rules) c.requires.formed c.requires.fits
 
 pub returns-clause-preserves : goal.returns-clause-preserves
@@ -23,4 +24,5 @@ returns-clause-preserves c = λ from m registers backs iterations.
     let is : c.of.result ≡ linked s = search rules in
     subst (λ (image : Parts). Follows image from (trail s) (dues_of s (back_of m)) (walk_from (entry image) m)) (sym is)
     (shape_followed s from m c.requires.formed c.requires.fits
-    (λ k below. c.in_ok-words.ensures.fit k (subst (λ n. k < n) (functions_count c.args.shape.now.functions) below)) registers backs iterations)
+    (λ k below. c.in_ok-words.ensures.fit k (subst (λ n. k < n) (functions_count c.args.shape.now.functions) below))
+    registers backs iterations)

@@ -7,10 +7,13 @@ use Rattle.tc_link.proofs.images.placed.Goals as goal
 
 pub returns-clause-count : goal.returns-clause-count
 returns-clause-count c =
-    let sized = c.as_slice-2.ensures.value ∙ c.in_ok-sizes.ensures ∙ ap (λ fs. map parts_words (functions_of fs)) c.as_slice.ensures in
+    let sized = c.as_slice-2.ensures.value ∙ c.in_ok-sizes.ensures
+    ∙ ap (λ fs. map parts_words (functions_of fs)) c.as_slice.ensures in
     c.in_ok-places.ensures.count ∙ ap length sized ∙ length-map (plain_shape c.args.shape.now).functions parts_words
 
 pub returns-clause-places : goal.returns-clause-places
 returns-clause-places c =
-    let sized = c.as_slice-2.ensures.value ∙ c.in_ok-sizes.ensures ∙ ap (λ fs. map parts_words (functions_of fs)) c.as_slice.ensures in
-    placed_so (plain_shape c.args.shape.now) c.as_slice-2.result.now c.in_ok-places.places.items sized c.in_ok-places.ensures.places
+    let sized = c.as_slice-2.ensures.value ∙ c.in_ok-sizes.ensures
+    ∙ ap (λ fs. map parts_words (functions_of fs)) c.as_slice.ensures in
+    placed_so (plain_shape c.args.shape.now) c.as_slice-2.result.now c.in_ok-places.places.items sized
+    c.in_ok-places.ensures.places

@@ -32,11 +32,24 @@ loop-k-preserved c =
     elim c.if-k-entry.branch [
       | then-k-entry+in_ok-push w ↦
           let items = ap (λ v. v.items) w.places-is ∙ w.in_ok-push.ensures.items in
-          let is : w.low.result ≡ place size c.args.entry c.loop-k.k = w.low.ensures ∙ sym (entry_placed size c.args.entry c.loop-k.k w.if-k-entry.true) in
+          let is : w.low.result ≡ place size c.args.entry c.loop-k.k =
+          w.low.ensures ∙ sym (entry_placed size c.args.entry c.loop-k.k w.if-k-entry.true) in
           record {
-            count = omega (arith, ap length items, length_push c.loop-k.places.items w.low.result, c.loop-k.invariant.count);
-            next = omega (arith, w.next-is, c.loop-k.invariant.next, entry_counted size c.args.entry c.loop-k.k w.if-k-entry.true);
-            places = place_more size c.args.entry c.loop-k.k w.low.result c.loop-k.places.items c.if-k-entry.places.items c.loop-k.invariant.count is items c.loop-k.invariant.places;
+            count = omega (
+              arith,
+              ap length items,
+              length_push c.loop-k.places.items w.low.result,
+              c.loop-k.invariant.count,
+            );
+            next = omega (
+              arith,
+              w.next-is,
+              c.loop-k.invariant.next,
+              entry_counted size c.args.entry c.loop-k.k
+                  w.if-k-entry.true,
+            );
+            places = place_more size c.args.entry c.loop-k.k w.low.result c.loop-k.places.items
+                c.if-k-entry.places.items c.loop-k.invariant.count is items c.loop-k.invariant.places;
           }
       | else-k-entry+in_ok-push-2 w ↦
           let items = ap (λ v. v.items) w.places-is ∙ w.in_ok-push-2.ensures.items in
@@ -44,10 +57,24 @@ loop-k-preserved c =
           let within = all_counted size c.args.entry (length c.args.sizes.now) c.requires.entry in
           let fewer = fewer_words size c.args.entry (c.loop-k.k + 1) (length c.args.sizes.now) (omega arith) in
           let is : w.low-else-k-entry.result ≡ place size c.args.entry c.loop-k.k =
-          omega (arith, w.low-else-k-entry.ensures, c.loop-k.invariant.next, within, fewer, one, other_placed size c.args.entry c.loop-k.k w.if-k-entry.false) in
+          omega (
+            arith,
+            w.low-else-k-entry.ensures,
+            c.loop-k.invariant.next,
+            within,
+            fewer,
+            one,
+            other_placed size c.args.entry c.loop-k.k w.if-k-entry.false,
+          ) in
           record {
-            count = omega (arith, ap length items, length_push c.loop-k.places.items w.low-else-k-entry.result, c.loop-k.invariant.count);
+            count = omega (
+              arith,
+              ap length items,
+              length_push c.loop-k.places.items w.low-else-k-entry.result,
+              c.loop-k.invariant.count,
+            );
             next = omega (arith, w.next-is, c.loop-k.invariant.next, one);
-            places = place_more size c.args.entry c.loop-k.k w.low-else-k-entry.result c.loop-k.places.items c.if-k-entry.places.items c.loop-k.invariant.count is items c.loop-k.invariant.places;
+            places = place_more size c.args.entry c.loop-k.k w.low-else-k-entry.result c.loop-k.places.items
+                c.if-k-entry.places.items c.loop-k.invariant.count is items c.loop-k.invariant.places;
           }
     ]

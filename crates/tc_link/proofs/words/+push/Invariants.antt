@@ -11,7 +11,8 @@ abbrev pub invariant-push_parts-loop-part : goal.invariant-push_parts-loop-part
 invariant-push_parts-loop-part l = record {
   words : l.words.items ++ codes (flat_parts (slice_index l.places) (parts_of (drop l.part-index l.parts)))
       ≡ l.initial.words.items ++ codes (flat_parts (slice_index l.places) (parts_of l.parts));
-  fit : All FitsBundle (flat_parts (slice_index l.places) (parts_of (drop l.part-index l.parts))) → All FitsBundle (flat_parts (slice_index l.places) (parts_of l.parts));
+  fit : All FitsBundle (flat_parts (slice_index l.places) (parts_of (drop l.part-index l.parts)))
+      → All FitsBundle (flat_parts (slice_index l.places) (parts_of l.parts));
 }
 
 abbrev pub decreases-push_part : goal.decreases-push_part

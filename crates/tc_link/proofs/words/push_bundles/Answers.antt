@@ -11,9 +11,11 @@ loop-bundle-preserved c =
     let i = c.loop-bundle.bundle-index in
     record {
       words = grind (arith, common_steps);
-      fit = λ rest. c.loop-bundle.invariant.fit (fit_from (λ bs. bs) bundles i c.bundle-item.result (omega arith) c.bundle-item.is
+      fit = λ rest. c.loop-bundle.invariant.fit (fit_from (λ bs. bs) bundles i c.bundle-item.result
+          (omega arith) c.bundle-item.is
           (All-cons FitsBundle c.bundle-item.result (drop (i + 1) bundles) c.push_bundle.ensures.fit rest));
     }
 
 pub returns-clause-fit : goal.returns-clause-fit
-returns-clause-fit c = c.loop-bundle.invariant.fit (fit_past (λ bs. bs) c.args.bundles.now c.loop-bundle.bundle-index (omega arith) (All-nil FitsBundle))
+returns-clause-fit c = c.loop-bundle.invariant.fit (fit_past (λ bs. bs) c.args.bundles.now c.loop-bundle.bundle-index
+    (omega arith) (All-nil FitsBundle))

@@ -18,6 +18,8 @@ loop-bundle-preserved c =
       words = grind (arith, common_steps);
       behind = grind (arith, common_steps);
       fit = λ rest. c.loop-bundle.invariant.fit (fit_from (turned behind) tail i b (omega arith) c.bundle-item.is
-          (All-cons FitsBundle (branch_back behind b) (turned (behind + bundle_words b) (drop (i + 1) tail)) (subst FitsBundle c.branch_back.ensures c.push_bundle.ensures.fit)
-          (subst (λ n. All FitsBundle (turned (behind + n) (drop (i + 1) tail))) c.words_of_bundle-behind.ensures rest)));
+          (All-cons FitsBundle (branch_back behind b) (turned (behind + bundle_words b) (drop (i + 1) tail))
+          (subst FitsBundle c.branch_back.ensures c.push_bundle.ensures.fit)
+          (subst (λ n. All FitsBundle (turned (behind + n) (drop (i + 1) tail))) c.words_of_bundle-behind.ensures
+          rest)));
     }

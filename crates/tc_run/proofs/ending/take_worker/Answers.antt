@@ -5,7 +5,8 @@ use Rattle.tc_run.proofs.Taking.{all_left, others_left}
 use Rattle.tc_run.proofs.ending.take_worker.Goals as goal
 
 pub place_among-at-requires : goal.place_among-at-requires
-place_among-at-requires c = record { there = subst (λ xs. HasWorker xs c.args.core) (sym c.as_slice.ensures.value) c.requires.there }
+place_among-at-requires c =
+    record { there = subst (λ xs. HasWorker xs c.args.core) (sym c.as_slice.ensures.value) c.requires.there }
 
 pub returns-clause-left : goal.returns-clause-left
 returns-clause-left c = λ m board.
@@ -29,4 +30,5 @@ returns-clause-others c = λ k other.
       within = search rules;
       here = c.swap_remove.ensures.by_index.0;
       others = c.swap_remove.ensures.by_index.1;
-    }) c.args.core k (subst (λ xs. (d : WorkerFace) → number_of (slice_index_or xs c.place_among-at.result d) ≡ c.args.core) c.as_slice.ensures.value c.place_among-at.ensures.number) other
+    }) c.args.core k (subst (λ xs. (d : WorkerFace) → number_of (slice_index_or xs c.place_among-at.result d)
+    ≡ c.args.core) c.as_slice.ensures.value c.place_among-at.ensures.number) other

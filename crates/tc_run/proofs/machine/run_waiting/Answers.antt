@@ -13,8 +13,10 @@ pub end_of-requires-clause-through : goal.end_of-requires-clause-through
 end_of-requires-clause-through g c =
     let m = c.args.machine.now in let b = c.in_ok-board.board in
     done_through m b c.run_groups-workers.result.items
-    (c.run_groups-workers.ensures.carries.work m ((c.in_ok-crew.ensures.carries b).work m c.in_ok-groups.ensures.of)) c.run_groups-workers.ensures.done
+    (c.run_groups-workers.ensures.carries.work m ((c.in_ok-crew.ensures.carries b).work m c.in_ok-groups.ensures.of))
+    c.run_groups-workers.ensures.done
 
 pub end_of-requires-clause-all : goal.end_of-requires-clause-all
 end_of-requires-clause-all g c = λ k low.
-    c.run_groups-workers.ensures.carries.have k ((c.in_ok-crew.ensures.carries c.in_ok-board.board).have k (c.in_ok-groups.ensures.all k low))
+    c.run_groups-workers.ensures.carries.have k ((c.in_ok-crew.ensures.carries c.in_ok-board.board).have k
+    (c.in_ok-groups.ensures.all k low))

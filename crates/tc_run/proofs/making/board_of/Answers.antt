@@ -17,7 +17,10 @@ pub new-requires-clause-course : goal.new-requires-clause-course
 new-requires-clause-course c =
     let m : Machine = c.args.machine.now in
     let n_is : length m.cores ≡ c.count_of-cores.result = sym c.count_of-cores.ensures.count in
-    let words_are : board_words m ≡ 4096 + 512 * c.count_of-cores.result = words_of (length m.cores) ∙ ap (λ n. 4096 + 512 * n) n_is in
-    subst (λ n. IsCourse n (4096 + 512 * c.count_of-cores.result) (all_operations m) (λ core values. (apart turn (length m.cores) core (core_among m.cores core) values m.limit).made)) n_is
-    (subst (λ w. IsCourse (length m.cores) w (all_operations m) (λ core values. (apart turn (length m.cores) core (core_among m.cores core) values m.limit).made)) words_are
+    let words_are : board_words m ≡ 4096 + 512 * c.count_of-cores.result =
+    words_of (length m.cores) ∙ ap (λ n. 4096 + 512 * n) n_is in
+    subst (λ n. IsCourse n (4096 + 512 * c.count_of-cores.result) (all_operations m)
+    (λ core values. (apart turn (length m.cores) core (core_among m.cores core) values m.limit).made)) n_is
+    (subst (λ w. IsCourse (length m.cores) w (all_operations m)
+    (λ core values. (apart turn (length m.cores) core (core_among m.cores core) values m.limit).made)) words_are
     (machine_course m c.loaded_with_words.ensures))

@@ -8,7 +8,8 @@ pub loop-group-init : goal.loop-group-init
 loop-group-init c =
     let given = workers_in c.args.groups.items in
     record {
-      carries = λ board. same_carried board given (c.in_ok-all.all.items ++ given) (ap (λ ws. ws ++ given) c.in_ok-all.ensures.items);
+      carries = λ board. same_carried board given (c.in_ok-all.all.items ++ given)
+          (ap (λ ws. ws ++ given) c.in_ok-all.ensures.items);
       room = omega (arith, c.requires.room, ap length c.in_ok-all.ensures.items, c.in_ok-all.ensures.capacity);
     }
 
@@ -19,9 +20,17 @@ loop-group-preserved c =
     let last = flat_last (λ ws. ws.items) gs rest group c.in-Some.ensures.items in
     record {
       carries = λ board.
-          carried_on board (workers_in c.args.groups.items) (all ++ workers_in gs) (all' ++ workers_in rest) (was.carries board)
-          (last_taken board (λ ws. ws.items) all all' gs rest group c.in-Some.ensures.items (same_carried board (all ++ group.items) all' c.gather.ensures.items));
-      room = omega (arith, was.room, ap length last ∙ length-append (workers_in rest) group.items, ap length c.gather.ensures.items ∙ length-append all group.items, c.gather.ensures.room);
+          carried_on board (workers_in c.args.groups.items) (all ++ workers_in gs) (all' ++ workers_in rest)
+          (was.carries board)
+          (last_taken board (λ ws. ws.items) all all' gs rest group c.in-Some.ensures.items
+          (same_carried board (all ++ group.items) all' c.gather.ensures.items));
+      room = omega (
+        arith,
+        was.room,
+        ap length last ∙ length-append (workers_in rest) group.items,
+        ap length c.gather.ensures.items ∙ length-append all group.items,
+        c.gather.ensures.room,
+      );
     }
 
 pub returns : goal.returns
@@ -29,6 +38,7 @@ returns c =
     let none : c.loop-group.groups.items ≡ [] = search rules in
     record {
       carries = λ board.
-          subst (Carries board (workers_in c.args.groups.items)) (ap (λ gs. c.loop-group.all.items ++ workers_in gs) none ∙ append-nil c.loop-group.all.items)
+          subst (Carries board (workers_in c.args.groups.items))
+          (ap (λ gs. c.loop-group.all.items ++ workers_in gs) none ∙ append-nil c.loop-group.all.items)
           (c.loop-group.invariant.carries board);
     }

@@ -5,7 +5,8 @@ use Rattle.tc_run.proofs.one_thread.all_of.Given as goal
 
 abbrev pub invariant-loop-group : goal.invariant-loop-group
 invariant-loop-group l = record {
-  carries : (board : BoardFace) → Carries board (workers_in l.initial.groups.items) (l.all.items ++ workers_in l.groups.items);
+  carries : (board : BoardFace) → Carries board (workers_in l.initial.groups.items) (l.all.items
+      ++ workers_in l.groups.items);
   room : length l.all.items + length (workers_in l.groups.items) ≤ vec_capacity l.all;
 }
 

@@ -13,10 +13,13 @@ loop-loaded-preserved c =
     let P : ℕ → Cpu → Type 0 = λ k d. IfSome (slice_get m.cores k) (λ l. IsBegun m.trace l d) in
     let is : slice_get m.cores i ≡ Some item =
     subst (λ ls. slice_get ls i ≡ Some item) c.cores-loaded-items.ensures.value
-    (slice_get_read c.cores-loaded-items.result.now (length c.cores-loaded-items.result.now) i item refl (search rules) (search rules)) in
-    let begun : IsBegun m.trace item core = subst (λ t. IsBegun t item core) c.trace.ensures.value c.in_ok-core_of.ensures in
+    (slice_get_read c.cores-loaded-items.result.now (length c.cores-loaded-items.result.now) i item refl (search rules)
+    (search rules)) in
+    let begun : IsBegun m.trace item core =
+    subst (λ t. IsBegun t item core) c.trace.ensures.value c.in_ok-core_of.ensures in
     let here : P i core = subst (λ o. IfSome o (λ l. IsBegun m.trace l core)) (sym is) begun in
     record {
       count = search rules;
-      each = subst (Every P) (sym c.in_ok-push.ensures.items) (every_more P c.loop-loaded.cores.items core was.each (subst (λ j. P j core) (sym was.count) here));
+      each = subst (Every P) (sym c.in_ok-push.ensures.items) (every_more P c.loop-loaded.cores.items core was.each
+          (subst (λ j. P j core) (sym was.count) here));
     }

@@ -7,4 +7,5 @@ use Rattle.tc_toml.proofs.values.integers_of.Given as goal
 
 abbrev pub invariant-loop-item : goal.invariant-loop-item
 invariant-loop-item l =
-    behind l.integers.items (each_item as_integer (items_view (drop l.item-index l.items))) ≡ each_item as_integer (items_view l.items)
+    behind l.integers.items (each_item as_integer (items_view (drop l.item-index l.items)))
+    ≡ each_item as_integer (items_view l.items)

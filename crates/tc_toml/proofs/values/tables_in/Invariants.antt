@@ -7,4 +7,5 @@ use Rattle.tc_toml.proofs.values.tables_in.Given as goal
 
 abbrev pub invariant-loop-item : goal.invariant-loop-item
 invariant-loop-item l =
-    behind (map (λ t. table_view t.now) l.tables.items) (each_item as_table (items_view (drop l.item-index l.items))) ≡ each_item as_table (items_view l.items)
+    behind (map (λ t. table_view t.now) l.tables.items) (each_item as_table (items_view (drop l.item-index l.items)))
+    ≡ each_item as_table (items_view l.items)

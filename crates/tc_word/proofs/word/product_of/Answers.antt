@@ -9,12 +9,20 @@ unsigned_abs-word (negsuc n) fits = omega arith
 
 -- two signed words, widened, have a product that fits 64 bits
 widened-product : (x y : ℤ) → FitsSigned w32 x → FitsSigned w32 y
-    → of_z w64 (to_z w64 (of_z w64 (to_z w64 (of_z w64 (to_z w32 (of_z w32 x))) *ℤ to_z w64 (of_z w64 (to_z w32 (of_z w32 y)))))) ≡ of_z w64 (x *ℤ y)
+    → of_z w64 (to_z w64 (of_z w64 (to_z w64 (of_z w64 (to_z w32 (of_z w32 x))) *ℤ to_z w64
+    (of_z w64 (to_z w32 (of_z w32 y)))))) ≡ of_z w64 (x *ℤ y)
 widened-product x y fits_x fits_y =
     let wide_x : FitsSigned w64 x = search rules in
     let wide_y : FitsSigned w64 y = search rules in
-    let wide : FitsSigned w64 (x *ℤ y) = fits_signed_mul w64 x y (2 ^ 31) (2 ^ 31) (unsigned_abs-word x fits_x) (unsigned_abs-word y fits_y) (lit< tt) in
-    rw (to_z-of_z w32 x fits_x, to_z-of_z w32 y fits_y, to_z-of_z w64 x wide_x, to_z-of_z w64 y wide_y, to_z-of_z w64 (x *ℤ y) wide)
+    let wide : FitsSigned w64 (x *ℤ y) = fits_signed_mul w64 x y (2 ^ 31) (2 ^ 31) (unsigned_abs-word x fits_x)
+    (unsigned_abs-word y fits_y) (lit< tt) in
+    rw (
+      to_z-of_z w32 x fits_x,
+      to_z-of_z w32 y fits_y,
+      to_z-of_z w64 x wide_x,
+      to_z-of_z w64 y wide_y,
+      to_z-of_z w64 (x *ℤ y) wide,
+    )
 
 pub returns : goal.returns
 returns c =

@@ -11,4 +11,5 @@ returns-then-not-is_taken-clause-reported g c =
     always c.fault_answer.result (λ coded _. untaken c.args.command c.args.job.now coded no)
 
 pub returns-in-Ok-clause-reported : goal.returns-in-Ok-clause-reported
-returns-in-Ok-clause-reported g c = told_of c.args.job.now c.args.command (all_shown c.in-Ok.coded.items) c.answer_with.result c.in-Ok.ensures.coded c.answer_with.ensures.reported
+returns-in-Ok-clause-reported g c = told_of c.args.job.now c.args.command (all_shown c.in-Ok.coded.items)
+    c.answer_with.result c.in-Ok.ensures.coded c.answer_with.ensures.reported

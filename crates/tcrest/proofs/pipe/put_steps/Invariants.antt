@@ -11,5 +11,6 @@ invariant-loop-count l = record {
   reached : 0 < l.count → limit_of l.core ≡ l.limit;
   stands : (x : Core) → StandsFor l.initial.core x 0 → StandsFor l.core x l.count;
   few : (x : Core) → StandsFor l.initial.core x 0 → l.count ≤ length (done_below x l.limit);
-  text : (x : Core) → StandsFor l.initial.core x 0 → l.text.items ≡ l.initial.text.items ++ steps_text x l.limit (min l.trace l.count);
+  text : (x : Core) → StandsFor l.initial.core x 0 → l.text.items ≡ l.initial.text.items
+      ++ steps_text x l.limit (min l.trace l.count);
 }

@@ -7,7 +7,8 @@ use Rattle.tcrest.proofs.top.tcrest.Goals as goal
 
 pub returns-clause-written : goal.returns-clause-written
 returns-clause-written g c =
-    written_if (answer c.args.words.now) _ _ _ _ _ _ (g.S.Source.left c.args.source.now) (answer-status c.args.words.now)
+    written_if (answer c.args.words.now) _ _ _ _ _ _ (g.S.Source.left c.args.source.now)
+    (answer-status c.args.words.now)
     (rw c.command_of.ensures at c.perform.ensures.ends)
 
 pub returns-clause-programs : goal.returns-clause-programs
@@ -20,4 +21,5 @@ pub returns-clause-whole : goal.returns-clause-whole
 returns-clause-whole g c = λ n bench. bench_whole _ n bench
 
 pub returns-clause-done : goal.returns-clause-done
-returns-clause-done g c = λ n bench. bench_done _ n _ _ _ _ _ (c.command_of.ensures ∙ bench) c.perform.ensures.ends_unread c.perform.ensures.reported_unread
+returns-clause-done g c = λ n bench. bench_done _ n _ _ _ _ _ (c.command_of.ensures ∙ bench)
+    c.perform.ensures.ends_unread c.perform.ensures.reported_unread

@@ -10,5 +10,6 @@ late_stamp n core from half some begun after =
 pub next_after-requires : goal.next_after-requires
 next_after-requires c = record {
   clear = λ half after here.
-      late_stamp c.args.ni.now.interface.cores c.args.ni.now.interface.core c.args.ni.now.from half c.requires.cores c.requires.begun after;
+      late_stamp c.args.ni.now.interface.cores c.args.ni.now.interface.core c.args.ni.now.from half c.requires.cores
+      c.requires.begun after;
 }

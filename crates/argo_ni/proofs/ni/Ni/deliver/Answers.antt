@@ -13,17 +13,21 @@ unreachable-requires c =
 pub returns-clause-state : goal.returns-clause-state
 returns-clause-state c = rw (← c.self.view_is) (λ cycle next.
     takes_first (seen c.self.inside) c.in-Some.packet cycle c.arrive.new.self
-    (is_first c.self.inside.cores c.self.inside.core c.self.inside.from c.self.inside.under_way c.in-Some.packet c.self.invariant.sound.queue (sym c.first.ensures ∙ c.in-Some.is))
+    (is_first c.self.inside.cores c.self.inside.core c.self.inside.from c.self.inside.under_way c.in-Some.packet
+    c.self.invariant.sound.queue (sym c.first.ensures ∙ c.in-Some.is))
     next c.arrive.ensures)
 
 pub returns-clause-heard : goal.returns-clause-heard
 returns-clause-heard c = λ cycle stamp values next.
     heard_delivery (seen c.self.inside) c.args.self.now c.in-Some.packet cycle stamp values c.self.view_is
-    (is_first c.self.inside.cores c.self.inside.core c.self.inside.from c.self.inside.under_way c.in-Some.packet c.self.invariant.sound.queue (sym c.first.ensures ∙ c.in-Some.is)) next
+    (is_first c.self.inside.cores c.self.inside.core c.self.inside.from c.self.inside.under_way c.in-Some.packet
+    c.self.invariant.sound.queue (sym c.first.ensures ∙ c.in-Some.is)) next
     ∙ sym (ap (λ (s : Standing). s.interface) (returns-clause-state c cycle next))
 
 pub invariant_of-self : goal.invariant_of-self
 invariant_of-self c =
-    kept_delivered (seen c.self.inside) c.args.self.now c.in-Some.packet c.arrive.new.self c.self.inside.sending c.self.view_is c.self.invariant
-    (is_first c.self.inside.cores c.self.inside.core c.self.inside.from c.self.inside.under_way c.in-Some.packet c.self.invariant.sound.queue (sym c.first.ensures ∙ c.in-Some.is))
+    kept_delivered (seen c.self.inside) c.args.self.now c.in-Some.packet c.arrive.new.self c.self.inside.sending
+    c.self.view_is c.self.invariant
+    (is_first c.self.inside.cores c.self.inside.core c.self.inside.from c.self.inside.under_way c.in-Some.packet
+    c.self.invariant.sound.queue (sym c.first.ensures ∙ c.in-Some.is))
     c.requires.next c.arrive.ensures

@@ -10,10 +10,14 @@ returns-in-None-Some-clause-next c =
 
 pub returns-then-cycle-packet-clause-next : goal.returns-then-cycle-packet-clause-next
 returns-then-cycle-packet-clause-next c =
-    sent_before c.args.self.now c.in-Some-Some.packet (half_of c.injection_in-then-cycle-packet.result) c.in-Some-Some.cycle
-    c.injection_in-then-cycle-packet.ensures.half c.in-Some-Some.ensures.next c.in-Some-Some.ensures'.first c.if-cycle-packet.true
+    sent_before c.args.self.now c.in-Some-Some.packet (half_of c.injection_in-then-cycle-packet.result)
+    c.in-Some-Some.cycle
+    c.injection_in-then-cycle-packet.ensures.half c.in-Some-Some.ensures.next c.in-Some-Some.ensures'.first
+    c.if-cycle-packet.true
 
 pub returns-else-cycle-packet-clause-next : goal.returns-else-cycle-packet-clause-next
 returns-else-cycle-packet-clause-next c =
-    comes_before c.args.self.now c.in-Some-Some.packet (half_of c.delivery_of-else-cycle-packet.result) c.in-Some-Some.cycle
-    c.delivery_of-else-cycle-packet.ensures.half c.in-Some-Some.ensures'.first c.in-Some-Some.ensures.next c.if-cycle-packet.false
+    comes_before c.args.self.now c.in-Some-Some.packet (half_of c.delivery_of-else-cycle-packet.result)
+    c.in-Some-Some.cycle
+    c.delivery_of-else-cycle-packet.ensures.half c.in-Some-Some.ensures'.first c.in-Some-Some.ensures.next
+    c.if-cycle-packet.false

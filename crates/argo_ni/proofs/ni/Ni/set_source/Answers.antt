@@ -6,5 +6,7 @@ use Rattle.argo_ni.proofs.ni.Ni.set_source.Goals as goal
 
 pub invariant_of-self : goal.invariant_of-self
 invariant_of-self c =
-    kept_with_port (seen c.self.inside) c.args.self.now c.args.d (record (port_at c.self.inside.ports c.args.d) { source = c.args.word }) c.self.inside.sending
+    kept_with_port (seen c.self.inside) c.args.self.now c.args.d (record (port_at c.self.inside.ports c.args.d) {
+      source = c.args.word;
+    }) c.self.inside.sending
     c.self.view_is c.self.invariant c.requires.target refl

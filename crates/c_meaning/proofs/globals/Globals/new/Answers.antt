@@ -13,7 +13,8 @@ loop-slot-preserved c = λ name.
     let before = first_in c.loop-slot.first name in
     first_next before (first_in c.note.new.first name) c.slot-item.result (bytes_eq c.slot-item.result.name name)
     (among_slots name (drop (c.loop-slot.slot-index + 1) slots)) (among_slots name slots) (c.in_ok-note.ensures name)
-    (ap (λ ss. slot_before before (among_slots name ss)) (sym (drop_item slots c.loop-slot.slot-index c.slot-item.result (omega arith) c.slot-item.is))
+    (ap (λ ss. slot_before before (among_slots name ss)) (sym (drop_item slots c.loop-slot.slot-index c.slot-item.result
+    (omega arith) c.slot-item.is))
     ∙ c.loop-slot.invariant name)
 
 pub invariant_of-result : goal.invariant_of-result
@@ -23,6 +24,7 @@ invariant_of-result c =
       fit = c.requires;
       kept = λ name.
           first_all (first_in c.loop-slot.first name) (among_slots name slots)
-          (ap (λ ss. slot_before (first_in c.loop-slot.first name) (among_slots name ss)) (sym (drop_all c.loop-slot.slot-index slots c.loop-slot-test.false))
+          (ap (λ ss. slot_before (first_in c.loop-slot.first name) (among_slots name ss))
+          (sym (drop_all c.loop-slot.slot-index slots c.loop-slot-test.false))
           ∙ c.loop-slot.invariant name);
     }

@@ -15,12 +15,14 @@ returns-in-Some-clause-shown c =
 pub returns-in-Some-find-clause-shown : goal.returns-in-Some-find-clause-shown
 returns-in-Some-find-clause-shown c =
     let scope = c.args.self.now in
-    c.in-Some-find.ensures ∙ found_stands c.args.name.now scope.globals.slots.now (open_names scope.variables) _ c.in-None.ensures.found
+    c.in-Some-find.ensures ∙ found_stands c.args.name.now scope.globals.slots.now (open_names scope.variables) _
+    c.in-None.ensures.found
 
 pub returns-in-None-find-clause-shown : goal.returns-in-None-find-clause-shown
 returns-in-None-find-clause-shown c =
     let scope = c.args.self.now in
-    c.in-None-find.ensures ∙ found_stands c.args.name.now scope.globals.slots.now (open_names scope.variables) _ c.in-None.ensures.found
+    c.in-None-find.ensures ∙ found_stands c.args.name.now scope.globals.slots.now (open_names scope.variables) _
+    c.in-None.ensures.found
 
 pub returns-in-Some-find-clause-fits : goal.returns-in-Some-find-clause-fits
 returns-in-Some-find-clause-fits c =

@@ -8,4 +8,5 @@ returns-in-None-clause-found g c = none_found c.args.name.now c.args.self.now.en
 pub returns-in-Some-clause-found : goal.returns-in-Some-clause-found
 returns-in-Some-clause-found g c =
     ap (λ e. Some (c.in-Some.number, e.means)) c.index.ensures
-    ∙ some_found c.args.name.now c.args.self.now.entries.items c.in-Some.number c.index.result.now c.in-Some.ensures.number
+    ∙ some_found c.args.name.now c.args.self.now.entries.items c.in-Some.number c.index.result.now
+    c.in-Some.ensures.number

@@ -10,4 +10,5 @@ pub returns-clause-within : goal.returns-clause-within
 returns-clause-within g c =
     let entries = c.args.self.now.entries.items in
     subst (λ number. IfSome number (λ n. n < length entries))
-    (sym (c.copied.ensures ∙ c.get.ensures.value ∙ c.args.self.now.last_kept c.args.name.now)) (number_of_entry c.args.name.now entries)
+    (sym (c.copied.ensures ∙ c.get.ensures.value ∙ c.args.self.now.last_kept c.args.name.now))
+    (number_of_entry c.args.name.now entries)

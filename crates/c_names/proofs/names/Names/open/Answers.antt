@@ -10,8 +10,10 @@ invariant_of-self-in-Ok g c =
     let names = c.args.self.now in
     let e : Entry _ = record { name = c.args.name; means = c.args.means; hides = c.number-hides.result } in
     record {
-      last_kept = kept_pushed (last_in names.last) (last_in c.insert.new.self) names.entries.items c.push.new.self.items e c.len-number.result
+      last_kept = kept_pushed (last_in names.last) (last_in c.insert.new.self) names.entries.items c.push.new.self.items
+          e c.len-number.result
           names.last_kept c.in_ok-push.ensures.items (omega (arith, c.len-number.ensures))
           (hash_map_updates_str c.args.name.now names.last c.insert.new.self _ c.in-Ok.ensures.updates);
-      hidden_kept = hidden_pushed names.entries.items c.push.new.self.items e names.hidden_kept c.number-hides.ensures.number c.in_ok-push.ensures.items;
+      hidden_kept = hidden_pushed names.entries.items c.push.new.self.items e names.hidden_kept
+          c.number-hides.ensures.number c.in_ok-push.ensures.items;
     }

@@ -7,14 +7,20 @@ use Rattle.clock_board.proofs.parts.Board.load.Goals as goal
 
 pub load-found-requires : goal.load-found-requires
 load-found-requires g c =
-    let within : c.args.word < c.self.inside.words = next_fits c.self.inside.words _ c.args.pass.now.view (load c.args.stamp c.args.word c.requires.next.0) c.self.invariant.fits (search rules) c.requires.given c.requires.next.1 in (
+    let within : c.args.word < c.self.inside.words = next_fits c.self.inside.words _ c.args.pass.now.view
+    (load c.args.stamp c.args.word c.requires.next.0) c.self.invariant.fits (search rules) c.requires.given
+    c.requires.next.1 in (
       search rules,
       omega (arith, within, ap (λ (b : BoardFace). b.cores) c.self.view_is),
-      may_load (g.C.Course.cores c.self.inside.table.shared.key) (g.C.Course.all c.self.inside.table.shared.key) (g.C.Course.asked c.self.inside.table.shared.key)
-          _ _ c.pass.inside.seat.me c.args.pass.now.view c.args.word c.args.stamp c.requires.next.0 _ c.requires.next.1.0 (ap (λ (p : PassFace). p.view) c.pass.view_is) c.requires.given c.requires.seen (search rules) c.requires.next.1.1,
+      may_load (g.C.Course.cores c.self.inside.table.shared.key) (g.C.Course.all c.self.inside.table.shared.key)
+          (g.C.Course.asked c.self.inside.table.shared.key)
+          _ _ c.pass.inside.seat.me c.args.pass.now.view c.args.word c.args.stamp c.requires.next.0 _
+          c.requires.next.1.0 (ap (λ (p : PassFace). p.view) c.pass.view_is) c.requires.given c.requires.seen
+          (search rules) c.requires.next.1.1,
     )
 
 pub returns : goal.returns
 returns g c =
-    let m = made_load c.pass.inside.seat.me c.load-found.new.seat.me c.args.pass.now.view _ c.args.stamp c.args.word (ap (λ (p : PassFace). p.view) c.pass.view_is) c.requires.given c.load-found.ensures.2 c.requires.next in
+    let m = made_load c.pass.inside.seat.me c.load-found.new.seat.me c.args.pass.now.view _ c.args.stamp c.args.word
+    (ap (λ (p : PassFace). p.view) c.pass.view_is) c.requires.given c.load-found.ensures.2 c.requires.next in
     record { of = search rules; given = m.kept; made = m.made; left = m.left }

@@ -3,14 +3,14 @@ use Rattle.std.proofs.lemmas.Bool.Decides.{nat_tests}
 use Rattle.method_cache.specs.declared.cache.Method.{Method}
 use Rattle.method_cache.specs.Residents.{fits}
 use Rattle.method_cache.specs.Ring.{ring}
-use Rattle.method_cache.proofs.RingLemmas.{fits_ring, put_behind, ring_push}
+use Rattle.method_cache.proofs.RingLemmas.{fits_ring, put_after, ring_push}
 use Rattle.method_cache.proofs.cache.MethodCache.append.Goals as goal
 
 pub invariant_of-self : goal.invariant_of-self
 invariant_of-self c =
     let q = c.self.inside in
     let room : fits (ring q.places q.first q.count ++ c.args.method ∷ []) ≡ true = rw c.self.view_is (search rules) in
-    put_behind q.places c.args.method q.first q.count q.words _ c.self.invariant room refl (search rules)
+    put_after q.places c.args.method q.first q.count q.words _ c.self.invariant room refl (search rules)
 
 pub returns : goal.returns
 returns c =

@@ -17,6 +17,8 @@ returns-clause-stands c =
       shows = c.in_ok-body.ensures.shows;
       cores = ap (λ p. p.cores) (sym c.in_ok-body.ensures.place);
       core = ap (λ p. p.core) (sym c.in_ok-body.ensures.place);
-      there = subst (λ s. Stands (act_at turn c.in_ok-body.body.place.cores) c.in_ok-body.body.place.cores c.in_ok-body.body.place.core x [] s (core_of c.in_ok-body.body x.seen)) first
-          (λ more. ap (λ p. record { core = record { plain = p; seen = x.seen }; left = more; made = [] }) (sym c.in_ok-body.ensures.plain));
+      there = subst (λ s. Stands (act_at turn c.in_ok-body.body.place.cores) c.in_ok-body.body.place.cores
+          c.in_ok-body.body.place.core x [] s (core_of c.in_ok-body.body x.seen)) first
+          (λ more. ap (λ p. record { core = record { plain = p; seen = x.seen }; left = more; made = [] })
+          (sym c.in_ok-body.ensures.plain));
     }

@@ -3,4 +3,5 @@ use Rattle.patmos_core.proofs.cpu.Core.state.Goals as goal
 
 pub returns-in-Tasked : goal.returns-in-Tasked
 returns-in-Tasked c = λ through x made stands.
-    task_state c.args.self.now x made c.in-Tasked.tasked c.outcome.result c.in-Tasked.is c.outcome.ensures through stands
+    task_state c.args.self.now x made c.in-Tasked.tasked c.outcome.result c.in-Tasked.is
+    c.outcome.ensures through stands

@@ -15,4 +15,10 @@ returns-clause-goes_on c = record {
 pub returns-clause-asked : goal.returns-clause-asked
 returns-clause-asked c =
     let asked : IsAskedAt c.args.self.now c.act_event.new.event = c.act_event.ensures.asked in
-    record { stamp = asked.stamp; asks = asked.asks; leaves = asked.leaves; early = asked.early; delivers = asked.delivers }
+    record {
+      stamp = asked.stamp;
+      asks = asked.asks;
+      leaves = asked.leaves;
+      early = asked.early;
+      delivers = asked.delivers;
+    }

@@ -11,11 +11,15 @@ use Rattle.patmos_core.proofs.tasked.Tasked.go_alone.Goals as goal
 pub returns-clause-goes_on : goal.returns-clause-goes_on
 returns-clause-goes_on c = record {
   stands = λ x made on.
-      let come : ComesAlone c.args.self.now.cycle c.run_alone-self.result (core_of c.args.self.now.body on.seen) c.run_alone-self.new.self = c.run_alone-self.ensures.alone on.seen on.shows in
+      let come : ComesAlone c.args.self.now.cycle c.run_alone-self.result (core_of c.args.self.now.body on.seen)
+      c.run_alone-self.new.self = c.run_alone-self.ensures.alone on.seen on.shows in
       on_moved c.args.self.now _ x made made c.run_alone-self.ensures.frame on come.seen come.shows
-      (there_alone c.args.self.now.body.place.cores c.args.self.now.body.place.core x made c.args.self.now.body.place.in_range.among
-      c.args.self.now.cycle c.run_alone-self.result c.args.self.now.phase (core_of c.args.self.now.body on.seen) c.run_alone-self.new.self c.requires.delivery c.run_alone-self.ensures.from
-      (λ u from below. c.still_until-until.ensures.still u from (omega (arith, below, c.run_alone-self.ensures.within))) come on.there);
+      (there_alone c.args.self.now.body.place.cores c.args.self.now.body.place.core x made
+      c.args.self.now.body.place.in_range.among
+      c.args.self.now.cycle c.run_alone-self.result c.args.self.now.phase (core_of c.args.self.now.body on.seen)
+      c.run_alone-self.new.self c.requires.delivery c.run_alone-self.ensures.from
+      (λ u from below. c.still_until-until.ensures.still u from (omega (arith, below, c.run_alone-self.ensures.within)))
+      come on.there);
   frame = c.run_alone-self.ensures.frame;
   phases = omega (arith, c.run_alone-self.ensures.from);
 }
@@ -23,7 +27,9 @@ returns-clause-goes_on c = record {
 pub returns-clause-alone : goal.returns-clause-alone
 returns-clause-alone c = λ is.
     let below : c.run_alone-self.result < c.still_until-until.result = search rules in
-    let up : IsUpTo (2 * c.args.self.now.cycle) c.args.self.now.body.ni = up_to_cycle c.args.self.now.body.ni c.args.self.now.cycle c.args.self.now.phase c.requires.delivery c.args.self.now.sound.ni in
+    let up : IsUpTo (2 * c.args.self.now.cycle) c.args.self.now.body.ni =
+    up_to_cycle c.args.self.now.body.ni c.args.self.now.cycle c.args.self.now.phase c.requires.delivery
+    c.args.self.now.sound.ni in
     record {
       still = subst (λ s. IsStillIn s.interface c.run_alone-self.result) (sym c.run_alone-self.ensures.ni)
           (c.still_until-until.ensures.still c.run_alone-self.result c.run_alone-self.ensures.from below);

@@ -12,11 +12,15 @@ returns-clause-goes_on c = record {
     shows = on.shows;
     cores = on.cores;
     core = on.core;
-    there = there_passed c.args.self.now.body.place.cores c.args.self.now.body.place.core x made (core_of c.args.self.now.body on.seen) c.args.self.now.cycle
+    there = there_passed c.args.self.now.body.place.cores c.args.self.now.body.place.core x made
+        (core_of c.args.self.now.body on.seen) c.args.self.now.cycle
         c.args.self.now.phase c.requires.delivery c.args.self.now.body.place.in_range.among
-        (quiet_delivery c.args.self.now.body.ni c.args.next c.args.self.now.cycle (core_of c.args.self.now.body on.seen) refl c.requires.next
-        (up_to_cycle c.args.self.now.body.ni c.args.self.now.cycle c.args.self.now.phase c.requires.delivery c.args.self.now.sound.ni).after c.requires.later) on.there;
+        (quiet_delivery c.args.self.now.body.ni c.args.next c.args.self.now.cycle (core_of c.args.self.now.body on.seen)
+        refl c.requires.next
+        (up_to_cycle c.args.self.now.body.ni c.args.self.now.cycle c.args.self.now.phase c.requires.delivery
+        c.args.self.now.sound.ni).after c.requires.later) on.there;
   };
   frame = record { place = refl; room = refl };
-  phases = subst (λ p. phases_done c.args.self.now.cycle p ≤ phases_done c.args.self.now.cycle Act) (sym c.requires.delivery) (omega arith);
+  phases = subst (λ p. phases_done c.args.self.now.cycle p ≤ phases_done c.args.self.now.cycle Act)
+      (sym c.requires.delivery) (omega arith);
 }

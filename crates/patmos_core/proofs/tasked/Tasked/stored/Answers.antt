@@ -8,7 +8,9 @@ returns-clause-stands c = λ values e asked x made on. record {
   shows = on.shows;
   cores = on.cores;
   core = on.core;
-  there = there_stored c.args.self.now.body.place.cores c.args.self.now.body.place.core x made (core_of c.args.self.now.body on.seen)
-      c.args.self.now.cycle c.args.self.now.phase c.requires.pending_store.0 e values c.requires.pending_store.1 c.args.self.now.body.place.in_range.among asked.stamp
+  there = there_stored c.args.self.now.body.place.cores c.args.self.now.body.place.core x made
+      (core_of c.args.self.now.body on.seen)
+      c.args.self.now.cycle c.args.self.now.phase c.requires.pending_store.0 e values c.requires.pending_store.1
+      c.args.self.now.body.place.in_range.among asked.stamp
       (asked.asks on.seen on.shows) on.there;
 }

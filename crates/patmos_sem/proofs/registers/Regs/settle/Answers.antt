@@ -10,6 +10,7 @@ use Rattle.patmos_sem.proofs.registers.Regs.settle.Goals as goal
 pub returns-in-Nothing : goal.returns-in-Nothing
 returns-in-Nothing c =
     let regs : Registers = the_view c.self.inside in
-    let same : regs ≡ after_writes (write.Nothing ∷ []) regs = quiet write.Nothing c.self.inside c.self.invariant (λ n old. refl) (λ n old. refl) in
+    let same : regs ≡ after_writes (write.Nothing ∷ []) regs =
+    quiet write.Nothing c.self.inside c.self.invariant (λ n old. refl) (λ n old. refl) in
     rw (← c.self.view_is) ((λ i. record (same i) { pending = c.in-Nothing.is i })
     ∙ (λ i. record (after_writes (came (sym c.in-Nothing.is i) ∷ []) regs) { pending = pending.Nothing }))

@@ -6,7 +6,8 @@ pub returns : goal.returns
 returns c = record {
   lands = c.requires.lands;
   bundle = c.in-Some.bundle;
-  fetched = sym (a_bundle c.args.self.now.image c.args.self.now.base c.args.offset c.in_ok-found.found.now c.in-Some.bundle c.in_ok-found.ensures.found c.in-Some.is);
+  fetched = sym (a_bundle c.args.self.now.image c.args.self.now.base c.args.offset c.in_ok-found.found.now
+      c.in-Some.bundle c.in_ok-found.ensures.found c.in-Some.is);
   inside = c.in_ok-found.ensures.inside;
   within = c.in_ok-found.ensures.within;
   asks = c.asked_by.ensures;

@@ -8,7 +8,12 @@ use Rattle.patmos_step.proofs.body.Body.do_branch.Goals as goal
 
 pub returns-clause-alone : goal.returns-clause-alone
 returns-clause-alone c = λ h.
-    done_alone c.args.cycle c.args.self.now _ (record { offset = c.args.offset; words = c.args.words; effect = effect_of (branch_alone c.args.guard c.args.by) c.args.self.now.regs }) h
+    done_alone c.args.cycle c.args.self.now _ (record {
+      offset = c.args.offset;
+      words = c.args.words;
+      effect = effect_of
+          (branch_alone c.args.guard c.args.by) c.args.self.now.regs;
+    }) h
     c.requires.next.next
     ((λ i. record (plain_of c.args.self.now) {
       regs = c.settle.ensures i;
@@ -16,5 +21,6 @@ returns-clause-alone c = λ h.
       flow = (c.branched-self.ensures ∙ ap (branched c.holds-taken.result c.args.offset) (to_z-of_z c.ranges.by)
           ∙ ap (λ taken. branched taken c.args.offset c.args.by) c.holds-taken.ensures) i;
       free = c.args.cycle + 1;
-    }) ∙ branched_is c.args.cycle c.args.words c.args.offset c.args.guard c.args.by (plain_of c.args.self.now) c.requires.next.next.here.bundle c.requires.next.alone c.requires.next.is)
+    }) ∙ branched_is c.args.cycle c.args.words c.args.offset c.args.guard c.args.by (plain_of c.args.self.now)
+    c.requires.next.next.here.bundle c.requires.next.alone c.requires.next.is)
     refl

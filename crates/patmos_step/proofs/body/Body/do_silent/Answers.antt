@@ -9,14 +9,16 @@ use Rattle.patmos_step.proofs.body.Body.do_silent.Goals as goal
 
 pub returns-clause-alone : goal.returns-clause-alone
 returns-clause-alone c = λ h.
-    done_alone c.args.cycle c.args.self.now (plain_of c.go_by.new.self) (record { offset = c.args.offset; words = c.args.words; effect = effect.Nothing }) h c.requires.next
+    done_alone c.args.cycle c.args.self.now (plain_of c.go_by.new.self)
+    (record { offset = c.args.offset; words = c.args.words; effect = effect.Nothing }) h c.requires.next
     (c.go_by.ensures.plain ∙ ap (λ x. ends c.args.cycle (passed c.args.words effect.Nothing (landed c.args.offset x)))
     (c.write_registers.ensures.plain c.requires.next.here.bundle c.args.words c.requires.next.here.fetched))
     (ap (λ s. s.interface) (c.go_by.ensures.ni ∙ c.write_registers.ensures.ni))
 
 pub returns-clause-begins : goal.returns-clause-begins
 returns-clause-begins c =
-    let written : plain_of c.write_registers.new.self ≡ _ = c.write_registers.ensures.plain c.requires.next.here.bundle c.args.words c.requires.next.here.fetched in
+    let written : plain_of c.write_registers.new.self ≡ _ =
+    c.write_registers.ensures.plain c.requires.next.here.bundle c.args.words c.requires.next.here.fetched in
     begins_next c.args.cycle (plain_of c.args.self.now) (plain_of c.go_by.new.self) c.requires.next.begins
     (ap (λ x. x.status) c.go_by.ensures.plain ∙ ap (λ x. x.status) written)
     (ap (λ x. x.transfer) c.go_by.ensures.plain ∙ ap (λ x. x.transfer) written)

@@ -8,20 +8,26 @@ use Rattle.patmos_step.proofs.body.Body.load_own.Goals as goal
 
 pub returns-clause-alone : goal.returns-clause-alone
 returns-clause-alone c = λ h.
-    load_alone c.args.cycle c.args.self.now (plain_of c.finish_load.new.self) c.args.next.now c.args.space c.args.width c.args.rd c.args.address h c.requires.begins c.requires.next c.requires.asks
-    c.requires.own c.requires.granted (local_waits c.args.space c.args.cycle (plain_of c.args.self.now).site c.requires.local)
-    (c.finish_load.ensures.plain ∙ ap (finished_load c.args.space c.args.width c.args.rd c.args.address c.args.cycle) (c.go_through.ensures.plain c.requires.next.bundle c.requires.next.fetched))
+    load_alone c.args.cycle c.args.self.now (plain_of c.finish_load.new.self) c.args.next.now c.args.space c.args.width
+    c.args.rd c.args.address h c.requires.begins c.requires.next c.requires.asks
+    c.requires.own c.requires.granted (local_waits c.args.space c.args.cycle (plain_of c.args.self.now).site
+    c.requires.local)
+    (c.finish_load.ensures.plain ∙ ap (finished_load c.args.space c.args.width c.args.rd c.args.address c.args.cycle)
+    (c.go_through.ensures.plain c.requires.next.bundle c.requires.next.fetched))
     (ap (λ s. s.interface) (c.finish_load.ensures.ni ∙ c.go_through.ensures.ni))
 
 pub returns-clause-begins : goal.returns-clause-begins
 returns-clause-begins c =
-    load_begins c.args.space c.args.width c.args.rd c.args.address c.args.cycle c.args.next.now.words c.args.next.now.offset c.args.next.now.effect c.requires.next.bundle
-    (plain_of c.args.self.now) (plain_of c.go_through.new.self) (plain_of c.finish_load.new.self) c.requires.begins c.requires.local
+    load_begins c.args.space c.args.width c.args.rd c.args.address c.args.cycle c.args.next.now.words
+    c.args.next.now.offset c.args.next.now.effect c.requires.next.bundle
+    (plain_of c.args.self.now) (plain_of c.go_through.new.self) (plain_of c.finish_load.new.self) c.requires.begins
+    c.requires.local
     (c.go_through.ensures.plain c.requires.next.bundle c.requires.next.fetched) c.finish_load.ensures.plain
 
 pub finish_load-requires-clause-granted : goal.finish_load-requires-clause-granted
 finish_load-requires-clause-granted c =
     subst (λ e. IsGranted e (plain_of c.go_through.new.self)) c.requires.asks
-    (granted_after c.args.next.now.effect c.args.next.now.words c.args.next.now.offset c.requires.next.bundle (plain_of c.args.self.now) (plain_of c.go_through.new.self)
+    (granted_after c.args.next.now.effect c.args.next.now.words c.args.next.now.offset c.requires.next.bundle
+    (plain_of c.args.self.now) (plain_of c.go_through.new.self)
     (subst (λ e. IsGranted e (plain_of c.args.self.now)) (sym c.requires.asks) c.requires.granted)
     (c.go_through.ensures.plain c.requires.next.bundle c.requires.next.fetched))

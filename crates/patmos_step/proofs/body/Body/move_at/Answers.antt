@@ -10,8 +10,11 @@ pub returns-clause-alone : goal.returns-clause-alone
 returns-clause-alone c = λ h shows.
     let seen : History = accessed c.args.self.now.transfer c.args.from h in
     let moves : ComesAlone c.args.from (c.args.from + 1) (core_of c.args.self.now h) c.move_own.new.self =
-    one_alone c.args.from (core_of c.args.self.now h) c.move_own.new.self seen (c.move_own.ensures.shows h shows) (c.move_own.ensures.alone h) in
-    comes_on c.args.from (c.args.from + 1) c.min.result (core_of c.args.self.now h) c.move_own.new.self c.move_own.new.self moves
+    one_alone c.args.from (core_of c.args.self.now h) c.move_own.new.self seen (c.move_own.ensures.shows h shows)
+    (c.move_own.ensures.alone h) in
+    comes_on c.args.from (c.args.from + 1) c.min.result (core_of c.args.self.now h) c.move_own.new.self
+    c.move_own.new.self moves
     (waits_alone (c.args.from + 1) c.min.result c.move_own.new.self moves.seen moves.shows
-    (λ u from below. c.active.ensures.asleep (core_of c.move_own.new.self moves.seen) u refl from (omega (arith, below, c.min.ensures))))
+    (λ u from below. c.active.ensures.asleep (core_of c.move_own.new.self moves.seen) u refl from
+    (omega (arith, below, c.min.ensures))))
     (omega arith) (omega (arith, c.min.ensures, c.active.ensures.from, c.requires.within))

@@ -7,8 +7,10 @@ use Rattle.patmos_step.proofs.body.Body.run_bundles.Goals as goal
 pub loop-cycle-preserved-in-On : goal.loop-cycle-preserved-in-On
 loop-cycle-preserved-in-On c = record {
   alone = λ h shows.
-      let before : ComesAlone c.args.from c.loop-cycle.cycle (core_of c.args.self.now h) c.loop-cycle.self = c.loop-cycle.invariant.alone h shows in
-      comes_on c.args.from c.loop-cycle.cycle (c.loop-cycle.cycle + 1) (core_of c.args.self.now h) c.loop-cycle.self c.do_next.new.self before (c.in-On.ensures.went.0 before.seen before.shows)
+      let before : ComesAlone c.args.from c.loop-cycle.cycle (core_of c.args.self.now h) c.loop-cycle.self =
+      c.loop-cycle.invariant.alone h shows in
+      comes_on c.args.from c.loop-cycle.cycle (c.loop-cycle.cycle + 1) (core_of c.args.self.now h) c.loop-cycle.self
+      c.do_next.new.self before (c.in-On.ensures.went.0 before.seen before.shows)
       c.loop-cycle.invariant.from (omega arith);
   can = c.do_next.ensures.can;
   ni = c.do_next.ensures.ni ∙ c.loop-cycle.invariant.ni;
@@ -24,8 +26,10 @@ loop-cycle-preserved-in-On c = record {
 pub loop-cycle-preserved : goal.loop-cycle-preserved
 loop-cycle-preserved c = record {
   alone = λ h shows.
-      let before : ComesAlone c.args.from c.loop-cycle.cycle (core_of c.args.self.now h) c.loop-cycle.self = c.loop-cycle.invariant.alone h shows in
-      comes_on c.args.from c.loop-cycle.cycle c.in-Until.next (core_of c.args.self.now h) c.loop-cycle.self c.do_next.new.self before (c.in-Until.ensures.went.2 before.seen before.shows)
+      let before : ComesAlone c.args.from c.loop-cycle.cycle (core_of c.args.self.now h) c.loop-cycle.self =
+      c.loop-cycle.invariant.alone h shows in
+      comes_on c.args.from c.loop-cycle.cycle c.in-Until.next (core_of c.args.self.now h) c.loop-cycle.self
+      c.do_next.new.self before (c.in-Until.ensures.went.2 before.seen before.shows)
       c.loop-cycle.invariant.from (omega (arith, c.in-Until.ensures.went.0));
   can = c.do_next.ensures.can;
   ni = c.do_next.ensures.ni ∙ c.loop-cycle.invariant.ni;
@@ -40,8 +44,10 @@ loop-cycle-preserved c = record {
 
 pub returns-then-not-can_begin-2-clause-alone : goal.returns-then-not-can_begin-2-clause-alone
 returns-then-not-can_begin-2-clause-alone c = λ h shows.
-    let before : ComesAlone c.args.from c.loop-cycle.cycle (core_of c.args.self.now h) c.loop-cycle.self = c.loop-cycle.invariant.alone h shows in
-    comes_on c.args.from c.loop-cycle.cycle c.in-Until.next (core_of c.args.self.now h) c.loop-cycle.self c.do_next.new.self before (c.in-Until.ensures.went.2 before.seen before.shows)
+    let before : ComesAlone c.args.from c.loop-cycle.cycle (core_of c.args.self.now h) c.loop-cycle.self =
+    c.loop-cycle.invariant.alone h shows in
+    comes_on c.args.from c.loop-cycle.cycle c.in-Until.next (core_of c.args.self.now h) c.loop-cycle.self
+    c.do_next.new.self before (c.in-Until.ensures.went.2 before.seen before.shows)
     c.loop-cycle.invariant.from (omega (arith, c.in-Until.ensures.went.0))
 
 pub returns-then-not-can_begin-2-clause-due : goal.returns-then-not-can_begin-2-clause-due

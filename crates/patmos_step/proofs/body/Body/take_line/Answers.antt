@@ -9,7 +9,8 @@ pub returns-clause-at : goal.returns-clause-at
 returns-clause-at c = λ h shows.
     let after : History = with_line c.args.address c.args.words (accessed c.args.self.now.transfer c.args.cycle h) in
     let seen : Plain → Core = λ p. record { plain = p; seen = after } in
-    let with_word : Plain → Plain = with_value c.args.rd c.args.width c.args.address (slice_index c.args.words (place_of c.args.address)) in
+    let with_word : Plain → Plain =
+    with_value c.args.rd c.args.width c.args.address (slice_index c.args.words (place_of c.args.address)) in
     record {
       seen = after;
       shows = c.fill_line.ensures.shows _ (c.count.ensures.shows h shows);

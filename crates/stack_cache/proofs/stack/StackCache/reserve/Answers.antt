@@ -9,7 +9,12 @@ returns c =
     let slots = c.self.inside.slots in
     let private = c.args.private.now in
     let reserves : Reserves c.self.inside.st c.self.inside.ss c.args.n c.min-ss.result =
-    record { range = c.self.invariant; few = ok.0; room = omega (arith, ok.1, c.self.invariant); pointer = c.min-ss.ensures } in
+    record {
+      range = c.self.invariant;
+      few = ok.0;
+      room = omega (arith, ok.1, c.self.invariant);
+      pointer = c.min-ss.ensures;
+    } in
     let same_end : c.self.inside.ss ≡ c.args.self.now.ss = ap (λ (s : Stack). s.ss) c.self.view_is in
     record {
       over = search rules;

@@ -10,16 +10,20 @@ use Rattle.tc_run.proofs.crew.Crew.joined.Goals as goal
 
 pub loop-handle-preserved : goal.loop-handle-preserved
 loop-handle-preserved g c =
-    let was = c.loop-handle.invariant in let here = c.loop-handle.here.items in let h = c.in-Some.handle in let moved = h.promise.was.value.items in
+    let was = c.loop-handle.invariant in let here =
+    c.loop-handle.here.items in let h = c.in-Some.handle in let moved = h.promise.was.value.items in
     let rest = c.pop.new.self.items in let back = c.join.result.items in let all = c.gather.new.all.items in
-    let before = flat_map (λ h. h.promise.was.value.items) c.loop-handle.away.items in let left = flat_map (λ h. h.promise.was.value.items) rest in
+    let before = flat_map (λ h. h.promise.was.value.items) c.loop-handle.away.items in let left =
+    flat_map (λ h. h.promise.was.value.items) rest in
     let is = flat_last (λ h. h.promise.was.value.items) c.loop-handle.away.items rest h c.in-Some.ensures.items in
     record {
       crew = λ board on.
-          all_prefix (λ h. h.promise.board.value ≡ board) rest (h ∷ []) (subst (All (λ h. h.promise.board.value ≡ board)) c.in-Some.ensures.items (was.crew board on));
+          all_prefix (λ h. h.promise.board.value ≡ board) rest (h ∷ [])
+          (subst (All (λ h. h.promise.board.value ≡ board)) c.in-Some.ensures.items (was.crew board on));
       carries = λ board on.
           let same : h.promise.board.value ≡ board =
-          All-head (λ h. h.promise.board.value ≡ board) h [] (all_back (λ h. h.promise.board.value ≡ board) rest (h ∷ [])
+          All-head (λ h. h.promise.board.value ≡ board) h []
+          (all_back (λ h. h.promise.board.value ≡ board) rest (h ∷ [])
           (subst (All (λ h. h.promise.board.value ≡ board)) c.in-Some.ensures.items (was.crew board on))) in
           carried_on board (workers_of c.args.self) (here ++ before) (all ++ left) (was.carries board on)
           (subst (λ ws. Carries board (here ++ ws) (all ++ left)) (sym is)
@@ -43,6 +47,7 @@ returns g c =
     record {
       carries = λ board on.
           subst (Carries board (workers_of c.args.self))
-          (ap (λ hs. c.loop-handle.here.items ++ flat_map (λ h. h.promise.was.value.items) hs) none ∙ append-nil c.loop-handle.here.items)
+          (ap (λ hs. c.loop-handle.here.items ++ flat_map (λ h. h.promise.was.value.items) hs) none
+          ∙ append-nil c.loop-handle.here.items)
           (c.loop-handle.invariant.carries board on);
     }

@@ -15,28 +15,47 @@ take_on-requires-clause-on g c κs within =
 
 pub loop-group-preserved-then-not-is_empty : goal.loop-group-preserved-then-not-is_empty
 loop-group-preserved-then-not-is_empty g c =
-    let b = c.args.common.board.now in let was = c.loop-group.invariant in let gs = c.loop-group.groups.items in let rest = c.pop.new.self.items in
+    let b = c.args.common.board.now in let was =
+    c.loop-group.invariant in let gs = c.loop-group.groups.items in let rest = c.pop.new.self.items in
     let crew = workers_of c.loop-group.self in let crew' = workers_of c.take_on.new.self in
     let step : Carries b (crew ++ workers_in gs) (crew' ++ workers_in rest) =
-    last_taken b (λ ws. ws.items) crew crew' gs rest c.in-Some.group c.in-Some.ensures.items c.take_on.ensures.carries in
+    last_taken b (λ ws. ws.items) crew crew' gs rest c.in-Some.group c.in-Some.ensures.items
+    c.take_on.ensures.carries in
     record {
       ready = record {
         on = step.on was.ready.on;
         away = c.take_on.ensures.away;
-        room = omega (arith, was.ready.room, step.count, length-append crew (workers_in gs), length-append crew' (workers_in rest), c.take_on.ensures.room);
-        threads = omega (arith, was.ready.threads, c.take_on.ensures.one, c.take_on.ensures.threads, c.in-Some.ensures.len);
+        room = omega (
+          arith,
+          was.ready.room,
+          step.count,
+          length-append crew (workers_in gs),
+          length-append crew'
+              (workers_in rest),
+          c.take_on.ensures.room,
+        );
+        threads = omega (
+          arith,
+          was.ready.threads,
+          c.take_on.ensures.one,
+          c.take_on.ensures.threads,
+          c.in-Some.ensures.len,
+        );
       };
       flags = search rules;
-      carries = carried_on b (workers_of c.args.self.now ++ workers_in c.args.groups.items) (crew ++ workers_in gs) (crew' ++ workers_in rest) was.carries step;
+      carries = carried_on b (workers_of c.args.self.now ++ workers_in c.args.groups.items) (crew ++ workers_in gs)
+          (crew' ++ workers_in rest) was.carries step;
     }
 
 pub loop-group-preserved : goal.loop-group-preserved
 loop-group-preserved g c =
-    let b = c.args.common.board.now in let was = c.loop-group.invariant in let gs = c.loop-group.groups.items in let rest = c.pop.new.self.items in
+    let b = c.args.common.board.now in let was =
+    c.loop-group.invariant in let gs = c.loop-group.groups.items in let rest = c.pop.new.self.items in
     let crew = workers_of c.loop-group.self in
     let none : c.in-Some.group.items ≡ [] = nil_from_length c.in-Some.group.items (search rules) in
     let is : workers_in gs ≡ workers_in rest =
-    flat_last (λ ws. ws.items) gs rest c.in-Some.group c.in-Some.ensures.items ∙ ap (λ ws. workers_in rest ++ ws) none ∙ append-nil (workers_in rest) in
+    flat_last (λ ws. ws.items) gs rest c.in-Some.group c.in-Some.ensures.items ∙ ap (λ ws. workers_in rest ++ ws) none
+    ∙ append-nil (workers_in rest) in
     record {
       ready = record {
         on = subst (λ ws. All (IsOn b) (crew ++ ws)) is was.ready.on;
@@ -45,5 +64,6 @@ loop-group-preserved g c =
         threads = omega (arith, was.ready.threads, c.in-Some.ensures.len);
       };
       flags = search rules;
-      carries = subst (λ ws. Carries b (workers_of c.args.self.now ++ workers_in c.args.groups.items) (crew ++ ws)) is was.carries;
+      carries = subst (λ ws. Carries b (workers_of c.args.self.now ++ workers_in c.args.groups.items) (crew ++ ws))
+          is was.carries;
     }

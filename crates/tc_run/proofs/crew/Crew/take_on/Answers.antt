@@ -10,7 +10,8 @@ returns-in-Ok-clause-carries g c =
     let after = flat_map (λ h. h.promise.was.value.items) c.push_reserved.new.self.items in
     same_carried c.args.common.board.now ((here ++ before) ++ group) (here ++ after)
     (ap (λ ws. here ++ ws)
-    (flat_last (λ h. h.promise.was.value.items) c.push_reserved.new.self.items away c.in-Ok.handle c.push_reserved.ensures.items ∙ ap (λ v. before ++ v.items) c.in-Ok.ensures.started.0)
+    (flat_last (λ h. h.promise.was.value.items) c.push_reserved.new.self.items away c.in-Ok.handle
+    c.push_reserved.ensures.items ∙ ap (λ v. before ++ v.items) c.in-Ok.ensures.started.0)
     ∙ sym (append_assoc here before group))
 
 pub returns-in-Err-clause-carries : goal.returns-in-Err-clause-carries

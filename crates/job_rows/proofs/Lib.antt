@@ -1,0 +1,3 @@
+pub mod CoresFound
+pub mod OutputFound
+pub mod RowsFound

@@ -1,0 +1,4 @@
+pub mod Machine
+pub mod Loading
+pub mod Rows
+pub mod Worked
