@@ -5,7 +5,7 @@ use Rattle.std.specs.List.{All, flat_map, AllByRecursion as Each}
 use Rattle.std.proofs.lemmas.Bool.Decides.{nat_tests}
 use Rattle.std.proofs.lemmas.List.Folds.{list_any-append}
 use Rattle.patmos_instr.specs.Bundles.{FitsBundle}
-use Rattle.patmos_syntax.specs.declared.faults.AsmKind.TheVariants.{LabelTwice, TooLarge}
+use Rattle.patmos_forms.specs.declared.faults.AsmKind.TheVariants.{LabelTwice, TooLarge}
 use Rattle.patmos_syntax.specs.Items.{Item, function, label, bundle, items_of}
 use Rattle.patmos_asm.specs.Printed.{label_name}
 use Rattle.patmos_asm.specs.Assembly.{Lookup, Places, Before, nothing, size_from, labels_from, functions_from, names_from, is_among, noted, place_of, fault_of, after, first_fault, words_from, parts_in, code_in, code_of}

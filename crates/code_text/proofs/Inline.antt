@@ -4,7 +4,7 @@ use Rattle.std.specs.Fmt.{decimal, digits, digits_onto, digit_glyph}
 use Rattle.std.proofs.lemmas.Bool.Decides.{nat_tests}
 use Rattle.std.proofs.lemmas.List.Folds.{list_all-append}
 use Rattle.tc_io.specs.Hex.{hex8, hex_at, hex_digit_of}
-use Rattle.patmos_syntax.specs.Readers.{is_name}
+use Rattle.patmos_forms.specs.Readers.{is_name}
 use Rattle.patmos_asm.specs.Printed.{label_name}
 use Rattle.patmos_asm.proofs.Lines.{lacks, harmless_lacks}
 use Rattle.patmos_asm.proofs.Harmless.{name_harmless}

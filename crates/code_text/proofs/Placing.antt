@@ -6,7 +6,7 @@ use Rattle.std.proofs.lemmas.Int.{ints}
 use Rattle.patmos_instr.specs.Bundles.{Slots}
 use Rattle.patmos_instr.specs.declared.instructions.Op.{Op}
 use Rattle.patmos_instr.specs.declared.instructions.Op.TheVariants as op
-use Rattle.patmos_syntax.specs.Readers.{is_name}
+use Rattle.patmos_forms.specs.Readers.{is_name}
 use Rattle.patmos_syntax.specs.Drafts.{Draft, ready}
 use Rattle.patmos_asm.specs.Assembly.{Lookup}
 use Rattle.patmos_asm.specs.Printed.{label_name}

@@ -5,7 +5,7 @@ use Rattle.std.proofs.lemmas.Bool.{and_parts}
 use Rattle.patmos_instr.specs.declared.instructions.Instr.{Instr}
 use Rattle.patmos_syntax.specs.declared.statements.Where.{Where}
 use Rattle.patmos_syntax.specs.declared.statements.Where.TheVariants.{Plain, Braces, Comment}
-use Rattle.patmos_syntax.specs.Readers.{is_name}
+use Rattle.patmos_forms.specs.Readers.{is_name}
 use Rattle.patmos_syntax.specs.Where.{is_end, after_byte, is_comment}
 use Rattle.patmos_syntax.specs.Statements.{put_before, kept, not_blank, statements_of}
 use Rattle.patmos_syntax.specs.Drafts.{ready, DraftInstr, DraftBundle}

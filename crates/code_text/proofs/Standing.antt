@@ -5,10 +5,10 @@ use Rattle.std.proofs.lemmas.List.Elements.{All-head, All-tail}
 use Rattle.patmos_instr.specs.Bundles.{Slots, FitsBundle}
 use Rattle.patmos_instr.specs.Instructions.{is_long, is_second_kind, FitsOp}
 use Rattle.patmos_instr.specs.declared.guards.Guard.{Guard}
-use Rattle.patmos_syntax.specs.declared.forms.Flow.TheVariants.{Branch, Call, BranchFill}
+use Rattle.patmos_forms.specs.declared.forms.JumpKind.TheVariants.{Branch, Call, BranchFill}
 use Rattle.patmos_instr.specs.declared.instructions.Instr.{Instr}
 use Rattle.patmos_code.specs.Codes.{code}
-use Rattle.patmos_syntax.specs.Readers.{is_name}
+use Rattle.patmos_forms.specs.Readers.{is_name}
 use Rattle.patmos_syntax.specs.Drafts.{Draft, ready, to, DraftBundle, size_of}
 use Rattle.patmos_syntax.specs.Items.{Item, label, bundle}
 use Rattle.patmos_asm.specs.Assembly.{Lookup, Before, size_from, functions_from, names_from, is_among, is_known, no_function, fault_of, after, first_fault, placed_op, placed, words_from}

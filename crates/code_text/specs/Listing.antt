@@ -7,7 +7,7 @@ use Rattle.patmos_instr.specs.Bundles.{Slots}
 use Rattle.patmos_instr.specs.declared.instructions.Op.{Op}
 use Rattle.patmos_instr.specs.declared.instructions.Op.TheVariants as op
 use Rattle.patmos_instr.specs.declared.functions.StackFunc.TheVariants.{Sres}
-use Rattle.patmos_syntax.specs.declared.forms.Flow.TheVariants.{Branch, Call}
+use Rattle.patmos_forms.specs.declared.forms.JumpKind.TheVariants.{Branch, Call}
 use Rattle.patmos_syntax.specs.Drafts.{Draft, ready, to, DraftBundle}
 use Rattle.patmos_asm.specs.Printed.{label_name}
 use Rattle.sp_shape.specs.Parts.{PlainPart, straight, repeats, calls_to, leaves, PlainParts, no_part, part, PlainShape}

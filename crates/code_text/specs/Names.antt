@@ -1,7 +1,7 @@
 -- To be believed. The names of functions in an assembly text: those of the source, or numbers.
 use Rattle.std.specs.Prelude.{◌≡◌, ℕ, zero, suc, ◌<◌, ◌==◌, Bool, true, not, ◌&&◌, if◌then◌else◌, List, [], ◌∷◌, ◌++◌, length, bytes_eq, codes}
 use Rattle.std.specs.Fmt.{decimal}
-use Rattle.patmos_syntax.specs.Readers.{is_name}
+use Rattle.patmos_forms.specs.Readers.{is_name}
 use Rattle.patmos_asm.specs.Assembly.{is_among}
 use Rattle.code_text.specs.Listing.{name_of}
 

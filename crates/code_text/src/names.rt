@@ -3,7 +3,7 @@ ghost use Rattle.std.specs.Prelude.{◌≡◌, ◌^◌, ◌<◌, IfOk};
 ghost use Rattle.patmos_asm.specs.Assembly.{is_among};
 ghost use Rattle.code_text.specs.Names as specs;
 
-use patmos_syntax::is_name;
+use patmos_forms::is_name;
 use std::alloc::{AllocError, Global};
 use tc_word::Text;
 

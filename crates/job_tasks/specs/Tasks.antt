@@ -11,8 +11,8 @@ use Rattle.c_compile.specs.Texts.{Refused, no_token_at, too_wide_at, no_program_
 use Rattle.c_task.specs.Translation.{bound_on, persist_on, translation}
 use Rattle.local_store.specs.declared.store.TheConstants.{FIRST_DATA_WORD, INPUT_WORDS}
 use Rattle.patmos_code.specs.Images.{Parts, parts}
-use Rattle.patmos_syntax.specs.declared.faults.AsmKind.{AsmKind}
-use Rattle.patmos_syntax.specs.declared.faults.AsmKind.TheVariants.{Mnemonic, Operand, Range, Slot, NoLabel, LabelTwice, TooLarge, NoFunction}
+use Rattle.patmos_forms.specs.declared.faults.AsmKind.{AsmKind}
+use Rattle.patmos_forms.specs.declared.faults.AsmKind.TheVariants.{Mnemonic, Operand, Range, Slot, NoLabel, LabelTwice, TooLarge, NoFunction}
 use Rattle.patmos_asm.specs.declared.faults.AsmFault.{AsmFault}
 use Rattle.patmos_asm.specs.Assembly.{CodeParts, code_of}
 use Rattle.tc_job.specs.declared.job.Job.{Job}

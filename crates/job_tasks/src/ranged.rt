@@ -15,9 +15,12 @@ use tc_job::Job;
 #[derive(Drop)]
 pub struct RangedJob {
     job: Job,
+    // the job's slot table, tested once
+    table: Table,
 }
 
 impl Model for RangedJob {
+    ghost use Rattle.std.specs.Prelude.{◌≡◌};
     ghost use Rattle.tc_job.specs.declared.job.Job as jobs;
     ghost use Rattle.tc_job.specs.Ranges.{KeepsRanges};
 
@@ -25,7 +28,7 @@ impl Model for RangedJob {
 
     ghost view = { λ r. r.job };
 
-    ghost invariant = { λ r. KeepsRanges r.job };
+    ghost invariant = { λ r. KeepsRanges r.job × (r.table ≡ r.job.table) };
 }
 
 impl RangedJob {
@@ -34,7 +37,10 @@ impl RangedJob {
         requires { KeepsRanges job }
         ensures { result ≡ job }
     {
-        RangedJob { job }
+        let Some(table) = Table::new(job.table.as_slice(), job.cores) else {
+            unreachable!()
+        };
+        RangedJob { job, table }
     }
 
     /// The job.
@@ -72,10 +78,7 @@ impl RangedJob {
         ensures table { result.table ≡ self.now.table }
         ensures starts { result.start ≡ start }
     {
-        let Some(table) = Table::new(self.job.table.as_slice(), self.job.cores) else {
-            unreachable!()
-        };
-        match Place::tabled(&table, self.job.cores, core, self.job.slot, start) {
+        match Place::tabled(&self.table, self.job.cores, core, self.job.slot, start) {
             Some(place) => place,
             None => unreachable!(),
         }

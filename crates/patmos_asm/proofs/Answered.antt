@@ -1,7 +1,7 @@
 -- What a text is answered with.
 use Rattle.std.proofs.Common.{arith, ◌≡◌, ◌∙◌, ℕ, ◌==◌, true, false, List, [], ◌∷◌, length, refl, sym, ap, Option, Err}
 use Rattle.std.proofs.lemmas.Bool.Decides.{nat_tests}
-use Rattle.patmos_syntax.specs.declared.faults.AsmKind.TheVariants.{NoFunction}
+use Rattle.patmos_forms.specs.declared.faults.AsmKind.TheVariants.{NoFunction}
 use Rattle.patmos_asm.specs.declared.faults.AsmFault.{AsmFault}
 use Rattle.patmos_syntax.specs.declared.items.Item as code
 use Rattle.patmos_syntax.specs.Items.{Item, items_of}

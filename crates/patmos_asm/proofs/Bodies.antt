@@ -12,7 +12,7 @@ use Rattle.patmos_code.specs.Codes.{code, words, second_word, instr_code}
 use Rattle.patmos_code.specs.Decoding.{bundle_at}
 use Rattle.patmos_code.proofs.Instructions.{instr_small}
 use Rattle.patmos_code.proofs.Bundles.{bundle_back}
-use Rattle.patmos_syntax.specs.declared.forms.Flow.TheVariants.{Branch, Call, BranchFill}
+use Rattle.patmos_forms.specs.declared.forms.JumpKind.TheVariants.{Branch, Call, BranchFill}
 use Rattle.patmos_syntax.specs.Drafts.{Draft, ready, to, DraftBundle, is_long_draft, size_of}
 use Rattle.patmos_syntax.specs.Items.{Item, function, label, bundle, faulty}
 use Rattle.patmos_asm.specs.Assembly.{Lookup, size_from, place_of, labels_from, placed_op, placed, words_from}

@@ -14,13 +14,13 @@ use Rattle.patmos_instr.specs.declared.specials.WritableSpecial.TheVariants as w
 use Rattle.patmos_instr.specs.declared.guards.Guard.{Guard}
 use Rattle.patmos_instr.specs.declared.instructions.Op.{Op}
 use Rattle.patmos_instr.specs.declared.instructions.Op.TheVariants as op
-use Rattle.patmos_syntax.specs.declared.forms.Flow.{Flow}
-use Rattle.patmos_syntax.specs.declared.forms.Flow.TheVariants.{Branch, Call, BranchFill}
-use Rattle.patmos_syntax.specs.declared.forms.Form.{Form}
-use Rattle.patmos_syntax.specs.declared.forms.Form.TheVariants.{AluReg, AluImm, AluLong, Mul, Cmp, CmpImm, Comb, ToSpecial, FromSpecial, Stack, Load, Store}
-use Rattle.patmos_syntax.specs.Readers.{is_digit, begins_name, is_in_name, is_name}
-use Rattle.patmos_syntax.specs.Operands.{Token, register, predicate, negation, number, offset, special, writable, sign, special_names}
-use Rattle.patmos_syntax.specs.Forms.{mnemonic, flow_name, operands}
+use Rattle.patmos_forms.specs.declared.forms.JumpKind.{JumpKind}
+use Rattle.patmos_forms.specs.declared.forms.JumpKind.TheVariants.{Branch, Call, BranchFill}
+use Rattle.patmos_forms.specs.declared.forms.Form.{Form}
+use Rattle.patmos_forms.specs.declared.forms.Form.TheVariants.{AluReg, AluImm, AluLong, Mul, Cmp, CmpImm, Comb, ToSpecial, FromSpecial, Stack, Load, Store}
+use Rattle.patmos_forms.specs.Readers.{is_digit, begins_name, is_in_name, is_name}
+use Rattle.patmos_forms.specs.Operands.{Token, register, predicate, negation, number, offset, special, writable, sign, special_names}
+use Rattle.patmos_forms.specs.Forms.{mnemonic, flow_name, operands}
 use Rattle.patmos_syntax.specs.Drafts.{to, DraftInstr}
 use Rattle.patmos_asm.specs.Written.{sign_text, token_text, written, form_text, flag, op_text, draft_text, guard_text, is_nop, instr_text}
 use Rattle.patmos_asm.proofs.Lines.{is_harmless}
@@ -185,12 +185,12 @@ op_harmless (op.Store m w a s n) h =
     )
 op_harmless _ h = refl
 
-flow_harmless : (f : Flow) → AreHarmless (flow_name f)
+flow_harmless : (f : JumpKind) → AreHarmless (flow_name f)
 flow_harmless Branch = refl
 flow_harmless Call = refl
 flow_harmless BranchFill = refl
 
-pub jump_harmless : (f : Flow) (name : List ℕ) → is_name name ≡ true → AreHarmless (draft_text (to f name))
+pub jump_harmless : (f : JumpKind) (name : List ℕ) → is_name name ≡ true → AreHarmless (draft_text (to f name))
 jump_harmless f name e = joined (flow_name f ++ codes " ") name (joined (flow_name f) (codes " ") (flow_harmless f)
     refl) (name_harmless name e)
 

@@ -11,7 +11,7 @@ use Rattle.patmos_instr.specs.declared.instructions.Op.TheVariants.{AluLong}
 use Rattle.patmos_code.specs.Codes.{code, words, second_word, instr_code}
 use Rattle.patmos_code.specs.Images as images
 use Rattle.patmos_asm.specs.declared.faults.AsmFault.{AsmFault}
-use Rattle.patmos_syntax.specs.declared.forms.Flow.TheVariants.{Branch, Call, BranchFill}
+use Rattle.patmos_forms.specs.declared.forms.JumpKind.TheVariants.{Branch, Call, BranchFill}
 use Rattle.patmos_syntax.specs.Items.{Item, function, label, bundle, faulty, items_of}
 use Rattle.patmos_syntax.specs.Drafts.{Draft, ready, to, DraftBundle, is_long_draft, size_of}
 use Rattle.patmos_asm.specs.Assembly.{Lookup, Before, nothing, place_of, labels_from, size_from, functions_from, is_among, is_known, no_function, fault_of, after, first_fault, placed, words_from, CodeParts, parts_in, code_or, code_in, code_of}

@@ -5,7 +5,7 @@ use Rattle.std.proofs.lemmas.Bool.Decides.{nat_tests}
 use Rattle.std.proofs.lemmas.Bool.{and_parts}
 use Rattle.patmos_syntax.specs.declared.statements.Where.{Where}
 use Rattle.patmos_syntax.specs.declared.statements.Where.TheVariants.{Plain, Braces, Comment}
-use Rattle.patmos_syntax.specs.Readers.{is_blank, without_blanks, word_len, word_at, is_name, sign_in_front, sign_at}
+use Rattle.patmos_forms.specs.Readers.{is_blank, without_blanks, word_len, word_at, is_name, sign_in_front, sign_at}
 use Rattle.patmos_syntax.specs.Statements.{put_before, kept, not_blank, statements_of}
 use Rattle.patmos_syntax.specs.Where.{is_end, after_byte, is_comment}
 use Rattle.patmos_syntax.specs.Items.{label_at}

@@ -8,12 +8,12 @@ use Rattle.patmos_instr.specs.declared.functions.ImmFunc.TheVariants as imm
 use Rattle.patmos_instr.specs.declared.guards.Guard.{Guard}
 use Rattle.patmos_instr.specs.declared.instructions.Op.{Op}
 use Rattle.patmos_instr.specs.declared.instructions.Op.TheVariants as op
-use Rattle.patmos_syntax.specs.declared.faults.AsmKind.{AsmKind}
-use Rattle.patmos_syntax.specs.declared.faults.AsmKind.TheVariants.{Range}
-use Rattle.patmos_syntax.specs.declared.forms.Form.{Form}
-use Rattle.patmos_syntax.specs.declared.forms.Form.TheVariants.{AluReg, AluImm, AluLong, Mul, Cmp, CmpImm, Comb, ToSpecial, FromSpecial, Stack, Load, Store, Return, Nop}
-use Rattle.patmos_syntax.specs.Faults.{◌>>=◌}
-use Rattle.patmos_syntax.specs.Forms.{below, guard_of, op_of}
+use Rattle.patmos_forms.specs.declared.faults.AsmKind.{AsmKind}
+use Rattle.patmos_forms.specs.declared.faults.AsmKind.TheVariants.{Range}
+use Rattle.patmos_forms.specs.declared.forms.Form.{Form}
+use Rattle.patmos_forms.specs.declared.forms.Form.TheVariants.{AluReg, AluImm, AluLong, Mul, Cmp, CmpImm, Comb, ToSpecial, FromSpecial, Stack, Load, Store, Return, Nop}
+use Rattle.patmos_forms.specs.Faults.{◌>>=◌}
+use Rattle.patmos_forms.specs.Forms.{below, guard_of, op_of}
 use Rattle.patmos_asm.proofs.ReadForms.{is_flow}
 
 -- a chain that ends well went well

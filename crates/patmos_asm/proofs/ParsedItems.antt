@@ -4,13 +4,13 @@ use Rattle.std.specs.Option.{ok_or, option_map}
 use Rattle.patmos_instr.specs.Instructions.{FitsOp, is_second_kind}
 use Rattle.patmos_instr.specs.declared.guards.Guard.{Guard}
 use Rattle.patmos_instr.specs.declared.instructions.Instr.{Instr}
-use Rattle.patmos_syntax.specs.declared.faults.AsmKind.{AsmKind}
-use Rattle.patmos_syntax.specs.declared.faults.AsmKind.TheVariants.{Mnemonic, Operand, Slot}
-use Rattle.patmos_syntax.specs.declared.forms.Flow.{Flow}
-use Rattle.patmos_syntax.specs.Faults.{◌>>=◌}
-use Rattle.patmos_syntax.specs.Readers.{word_at, is_name, sign_at, at_end}
-use Rattle.patmos_syntax.specs.Operands.{read}
-use Rattle.patmos_syntax.specs.Forms.{flow_of, form_of, operands, op_of, op_in, guard_at, guard_of}
+use Rattle.patmos_forms.specs.declared.faults.AsmKind.{AsmKind}
+use Rattle.patmos_forms.specs.declared.faults.AsmKind.TheVariants.{Mnemonic, Operand, Slot}
+use Rattle.patmos_forms.specs.declared.forms.JumpKind.{JumpKind}
+use Rattle.patmos_forms.specs.Faults.{◌>>=◌}
+use Rattle.patmos_forms.specs.Readers.{word_at, is_name, sign_at, at_end}
+use Rattle.patmos_forms.specs.Operands.{read}
+use Rattle.patmos_forms.specs.Forms.{flow_of, form_of, operands, op_of, op_in, guard_at, guard_of}
 use Rattle.patmos_syntax.specs.Drafts.{Draft, ready, to, DraftInstr, DraftBundle, name_in, jump_in, plain_in, draft_in, instr_of, second_of, is_long_draft, pair_of, cut_at, parts_of, two_parts, both_of, halves_of, is_closed, braces_of, bundle_of}
 use Rattle.patmos_syntax.specs.Statements.{Piece, statements_of}
 use Rattle.patmos_syntax.specs.Items.{Item, function, label, bundle, faulty, label_at, function_item, bundle_item, statement_of, items_after, items_in, items_from, items_of}
@@ -30,7 +30,7 @@ chosen_name false b w name h e = cc
 pub name_ok : (text name : List ℕ) → name_in text ≡ Some name → is_name name ≡ true
 name_ok text name e = chosen_name (is_name (word_at text).0) (at_end (word_at text).1) (word_at text).0 name refl e
 
-jump_ok : (flow : Flow) (text : List ℕ) (d : Draft) → jump_in flow text ≡ Ok d → IsPrintableDraft d
+jump_ok : (flow : JumpKind) (text : List ℕ) (d : Draft) → jump_in flow text ≡ Ok d → IsPrintableDraft d
 jump_ok flow text d e =
     let t = bind_ok (ok_or (name_in text) Operand) (λ name. Ok (to flow name)) d e in
     let n : is_name t.0 ≡ true = name_ok text t.0 (ok_some (name_in text) Operand t.0 t.1) in
@@ -45,7 +45,7 @@ plain_ok word text d e =
     let k : ready u.0 ≡ d = cc in
     subst IsPrintableDraft k (op_fits t.0 v.0 u.0 v.2)
 
-jump_step : (flow : Flow) (word text : List ℕ) → flow_of word ≡ Some flow → draft_in word text ≡ jump_in flow text
+jump_step : (flow : JumpKind) (word text : List ℕ) → flow_of word ≡ Some flow → draft_in word text ≡ jump_in flow text
 unfolding draft_in
 jump_step flow word text h = rw h refl
 
@@ -56,7 +56,7 @@ plain_step word text h = rw h refl
 draft_ok : (word text : List ℕ) (d : Draft) → draft_in word text ≡ Ok d → IsPrintableDraft d
 draft_ok word text d e = by_flow (flow_of word) refl
   where
-    by_flow : (o : Option Flow) → flow_of word ≡ o → IsPrintableDraft d
+    by_flow : (o : Option JumpKind) → flow_of word ≡ o → IsPrintableDraft d
     by_flow (Some flow) h = jump_ok flow text d (sym (jump_step flow word text h) ∙ e)
     by_flow None h = plain_ok word text d (sym (plain_step word text h) ∙ e)
 

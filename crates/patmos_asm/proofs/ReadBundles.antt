@@ -8,7 +8,7 @@ use Rattle.patmos_instr.specs.Instructions.{FitsOp, is_second_kind}
 use Rattle.patmos_instr.specs.declared.instructions.Instr.{Instr}
 use Rattle.patmos_instr.specs.declared.instructions.Op.{Op}
 use Rattle.patmos_instr.specs.declared.instructions.Op.TheVariants as op
-use Rattle.patmos_syntax.specs.Readers.{is_name, sign_at}
+use Rattle.patmos_forms.specs.Readers.{is_name, sign_at}
 use Rattle.patmos_syntax.specs.Drafts.{Draft, ready, to, DraftInstr, DraftBundle, instr_of, is_long_draft, pair_of, cut_at, parts_of, braces_of, bundle_of}
 use Rattle.patmos_asm.specs.Written.{draft_text, instr_text, plain_text, bundle_text}
 use Rattle.patmos_asm.proofs.Lines.{lacks, harmless_lacks, lacks_sign}

@@ -17,16 +17,16 @@ use Rattle.patmos_instr.specs.declared.memories.StoreWidth.TheVariants as store
 use Rattle.patmos_instr.specs.declared.guards.Guard.{Guard}
 use Rattle.patmos_instr.specs.declared.instructions.Op.{Op}
 use Rattle.patmos_instr.specs.declared.instructions.Op.TheVariants as op
-use Rattle.patmos_syntax.specs.declared.faults.AsmKind.TheVariants.{Operand}
-use Rattle.patmos_syntax.specs.declared.forms.Flow.{Flow}
-use Rattle.patmos_syntax.specs.declared.forms.Flow.TheVariants.{Branch, Call, BranchFill}
-use Rattle.patmos_syntax.specs.declared.forms.Form.{Form}
-use Rattle.patmos_syntax.specs.declared.forms.Form.TheVariants.{AluReg, AluImm, AluLong, Mul, Cmp, CmpImm, Comb, ToSpecial, FromSpecial, Stack, Load, Store, Return, Nop}
-use Rattle.patmos_syntax.specs.Faults.{◌>>=◌}
-use Rattle.patmos_syntax.specs.Readers.{is_in_word, begins_name, is_in_name, is_name, word_at, at_end}
+use Rattle.patmos_forms.specs.declared.faults.AsmKind.TheVariants.{Operand}
+use Rattle.patmos_forms.specs.declared.forms.JumpKind.{JumpKind}
+use Rattle.patmos_forms.specs.declared.forms.JumpKind.TheVariants.{Branch, Call, BranchFill}
+use Rattle.patmos_forms.specs.declared.forms.Form.{Form}
+use Rattle.patmos_forms.specs.declared.forms.Form.TheVariants.{AluReg, AluImm, AluLong, Mul, Cmp, CmpImm, Comb, ToSpecial, FromSpecial, Stack, Load, Store, Return, Nop}
+use Rattle.patmos_forms.specs.Faults.{◌>>=◌}
+use Rattle.patmos_forms.specs.Readers.{is_in_word, begins_name, is_in_name, is_name, word_at, at_end}
 use Rattle.patmos_syntax.specs.Drafts.{Draft, ready, to, name_in, draft_in}
-use Rattle.patmos_syntax.specs.Operands.{Token, register, predicate, negation, number, offset, special, writable, sign, read}
-use Rattle.patmos_syntax.specs.Forms.{mnemonic, flow_name, flow_of, form_of, operands, below, guard_of, op_of, op_in}
+use Rattle.patmos_forms.specs.Operands.{Token, register, predicate, negation, number, offset, special, writable, sign, read}
+use Rattle.patmos_forms.specs.Forms.{mnemonic, flow_name, flow_of, form_of, operands, below, guard_of, op_of, op_in}
 use Rattle.patmos_asm.specs.Written.{written, form_text, op_text, draft_text, flag}
 use Rattle.patmos_asm.proofs.Lines.{is_harmless}
 use Rattle.patmos_asm.proofs.ReadWords.{ends_word, some_word_read}
@@ -250,7 +250,7 @@ is_mnemonic (Store w m) = elim w as (λ y. IsMnemonic (Store y m)) [
 ]
 is_mnemonic other = found other refl refl (omega arith) refl refl
 
-pub flow_back : (f : Flow) → (list_all is_in_word (flow_name f) ≡ true) × (0 < length (flow_name f))
+pub flow_back : (f : JumpKind) → (list_all is_in_word (flow_name f) ≡ true) × (0 < length (flow_name f))
     × (flow_of (flow_name f) ≡ Some f)
 flow_back Branch = (refl, omega arith, refl)
 flow_back Call = (refl, omega arith, refl)
@@ -421,7 +421,7 @@ name_words (b ∷ bs) e =
     let t = and_parts (begins_name b) (list_all is_in_name bs) e in
     (rw (first_in_word b t.0, all_in_word bs t.1) refl, omega arith)
 
-jump_read : (trail : List ℕ) (flow : Flow) (name : List ℕ) → Trails trail → is_name name ≡ true
+jump_read : (trail : List ℕ) (flow : JumpKind) (name : List ℕ) → Trails trail → is_name name ≡ true
     → draft_in (flow_name flow) (32 ∷ (name ++ trail)) ≡ Ok (to flow name)
 unfolding draft_in
 jump_read trail flow name t e =
@@ -432,7 +432,7 @@ jump_read trail flow name t e =
     ap (λ (x : List ℕ × List ℕ). cond (is_name x.0 && at_end x.1) (Some x.0) None) w ∙ rw (e, t.end) refl in
     rw (f.2, named) refl
 
-pub draft_back : (trail : List ℕ) (flow : Flow) (name : List ℕ) → Trails trail → is_name name ≡ true
+pub draft_back : (trail : List ℕ) (flow : JumpKind) (name : List ℕ) → Trails trail → is_name name ≡ true
     → IsRead trail (draft_text (to flow name)) (to flow name)
 draft_back trail flow name t e =
     let f = flow_back flow in

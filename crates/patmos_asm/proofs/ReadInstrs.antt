@@ -8,12 +8,12 @@ use Rattle.std.proofs.lemmas.Bool.{and_parts}
 use Rattle.patmos_instr.specs.declared.functions.ImmFunc.TheVariants as imm
 use Rattle.patmos_instr.specs.declared.guards.Guard.{Guard}
 use Rattle.patmos_instr.specs.declared.instructions.Op.TheVariants as op
-use Rattle.patmos_syntax.specs.declared.faults.AsmKind.{AsmKind}
-use Rattle.patmos_syntax.specs.declared.faults.AsmKind.TheVariants.{Mnemonic}
-use Rattle.patmos_syntax.specs.Faults.{◌>>=◌}
-use Rattle.patmos_syntax.specs.Readers.{is_blank, is_in_word, word_at, sign_at}
-use Rattle.patmos_syntax.specs.Operands.{numbered_at}
-use Rattle.patmos_syntax.specs.Forms.{guard_at, guard_of}
+use Rattle.patmos_forms.specs.declared.faults.AsmKind.{AsmKind}
+use Rattle.patmos_forms.specs.declared.faults.AsmKind.TheVariants.{Mnemonic}
+use Rattle.patmos_forms.specs.Faults.{◌>>=◌}
+use Rattle.patmos_forms.specs.Readers.{is_blank, is_in_word, word_at, sign_at}
+use Rattle.patmos_forms.specs.Operands.{numbered_at}
+use Rattle.patmos_forms.specs.Forms.{guard_at, guard_of}
 use Rattle.patmos_syntax.specs.Drafts.{Draft, ready, DraftInstr, draft_in, instr_of}
 use Rattle.patmos_asm.specs.Written.{draft_text, guard_text, is_nop, instr_text, flag}
 use Rattle.patmos_asm.proofs.ReadWords.{some_word_read, numbered_at-read}

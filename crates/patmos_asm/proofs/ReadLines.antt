@@ -9,7 +9,7 @@ use Rattle.std.proofs.lemmas.Bool.{and_parts}
 use Rattle.patmos_instr.specs.declared.guards.Guard.{Guard}
 use Rattle.patmos_instr.specs.declared.instructions.Instr.{Instr}
 use Rattle.patmos_syntax.specs.declared.statements.Where.TheVariants.{Plain, Braces}
-use Rattle.patmos_syntax.specs.Readers.{is_in_word, is_name, without_blanks, word_len, word_at, sign_at, at_end}
+use Rattle.patmos_forms.specs.Readers.{is_in_word, is_name, without_blanks, word_len, word_at, sign_at, at_end}
 use Rattle.patmos_syntax.specs.Statements.{Piece, kept, statements_of}
 use Rattle.patmos_syntax.specs.Drafts.{Draft, ready, DraftInstr, DraftBundle}
 use Rattle.patmos_syntax.specs.Items.{Item, function, label, bundle, faulty, label_at, function_item, statement_of, items_in, items_from}

@@ -4,8 +4,8 @@ use Rattle.std.specs.List.{list_all}
 use Rattle.std.proofs.lemmas.Bool.Decides.{nat_tests}
 use Rattle.std.proofs.lemmas.List.{append-nil}
 use Rattle.std.proofs.lemmas.Bool.{and_parts}
-use Rattle.patmos_syntax.specs.Readers.{◌>>=◌, is_blank, is_in_word, without_blanks, sign_in_front, sign_at, at_end}
-use Rattle.patmos_syntax.specs.Operands.{Token, register, predicate, negation, number, offset, special, writable, sign, special_names, named_at, value_at, read_after, read}
+use Rattle.patmos_forms.specs.Readers.{◌>>=◌, is_blank, is_in_word, without_blanks, sign_in_front, sign_at, at_end}
+use Rattle.patmos_forms.specs.Operands.{Token, register, predicate, negation, number, offset, special, writable, sign, special_names, named_at, value_at, read_after, read}
 use Rattle.patmos_asm.specs.Written.{sign_text, token_text, written}
 use Rattle.patmos_asm.proofs.ReadWords.{ends_word, not_false, some_word_read, number_at-read, numbered_at-read}
 

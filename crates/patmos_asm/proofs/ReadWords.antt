@@ -7,9 +7,9 @@ use Rattle.std.proofs.lemmas.Fmt.{decimal_by_steps}
 use Rattle.std.proofs.lemmas.Bool.Decides.{nat_tests}
 use Rattle.std.proofs.lemmas.Bool.{and_parts}
 use Rattle.std.proofs.Math.Seq.{take-append_seam, drop-append_seam}
-use Rattle.patmos_syntax.specs.declared.readers.Radix.TheVariants.{Decimal}
-use Rattle.patmos_syntax.specs.Readers.{◌>>=◌, is_blank, is_digit, without_blanks, is_in_word, word_len, word_at, digit_of, value_after, written_number, numbered}
-use Rattle.patmos_syntax.specs.Operands.{number_at, numbered_at}
+use Rattle.patmos_forms.specs.declared.readers.Radix.TheVariants.{Decimal}
+use Rattle.patmos_forms.specs.Readers.{◌>>=◌, is_blank, is_digit, without_blanks, is_in_word, word_len, word_at, digit_of, value_after, written_number, numbered}
+use Rattle.patmos_forms.specs.Operands.{number_at, numbered_at}
 
 -- no byte of a word stands in front
 abbrev pub ends_word : List ℕ → Bool

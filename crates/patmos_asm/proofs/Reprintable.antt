@@ -3,8 +3,8 @@ use Rattle.std.proofs.Common.{arith, ◌≡◌, ◌∙◌, ℕ, ◌+◌, ◌≤�
 use Rattle.patmos_instr.specs.declared.instructions.Instr.{Instr}
 use Rattle.patmos_instr.specs.declared.instructions.Op.{Op}
 use Rattle.patmos_instr.specs.declared.instructions.Op.TheVariants as op
-use Rattle.patmos_syntax.specs.declared.forms.Flow.TheVariants.{Branch, Call, BranchFill}
-use Rattle.patmos_syntax.specs.Readers.{is_name}
+use Rattle.patmos_forms.specs.declared.forms.JumpKind.TheVariants.{Branch, Call, BranchFill}
+use Rattle.patmos_forms.specs.Readers.{is_name}
 use Rattle.patmos_syntax.specs.Drafts.{Draft, ready, to, DraftBundle, is_long_draft, size_of}
 use Rattle.patmos_syntax.specs.Items.{Item, function, label, bundle, faulty}
 use Rattle.patmos_asm.specs.Bounds.{InBounds}

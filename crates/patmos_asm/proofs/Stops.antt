@@ -4,7 +4,7 @@ use Rattle.std.proofs.lemmas.Bool.Decides.{nat_tests}
 use Rattle.std.proofs.lemmas.Int.{ints}
 use Rattle.patmos_instr.specs.declared.instructions.Op.{Op}
 use Rattle.patmos_instr.specs.declared.instructions.Op.TheVariants as op
-use Rattle.patmos_syntax.specs.declared.forms.Flow.TheVariants.{Branch, Call, BranchFill}
+use Rattle.patmos_forms.specs.declared.forms.JumpKind.TheVariants.{Branch, Call, BranchFill}
 use Rattle.patmos_syntax.specs.Drafts.{Draft, ready, to, DraftBundle, size_of}
 use Rattle.patmos_syntax.specs.Items.{Item, function, label, bundle, faulty}
 use Rattle.patmos_asm.specs.Assembly.{Lookup, place_of, labels_from, placed_op, placed, is_known}

@@ -7,10 +7,10 @@ use Rattle.patmos_instr.specs.declared.instructions.Op.{Op}
 use Rattle.patmos_instr.specs.declared.instructions.Op.TheVariants as op
 use Rattle.patmos_code.specs.declared.images.TheConstants.{MOST_IN_FUNCTION, MOST_IN_IMAGE}
 use Rattle.patmos_code.specs.Codes.{code}
-use Rattle.patmos_syntax.specs.declared.faults.AsmKind.{AsmKind}
-use Rattle.patmos_syntax.specs.declared.faults.AsmKind.TheVariants.{NoLabel, LabelTwice, TooLarge, NoFunction}
+use Rattle.patmos_forms.specs.declared.faults.AsmKind.{AsmKind}
+use Rattle.patmos_forms.specs.declared.faults.AsmKind.TheVariants.{NoLabel, LabelTwice, TooLarge, NoFunction}
 use Rattle.patmos_asm.specs.declared.faults.AsmFault.{AsmFault}
-use Rattle.patmos_syntax.specs.declared.forms.Flow.TheVariants.{Branch, Call, BranchFill}
+use Rattle.patmos_forms.specs.declared.forms.JumpKind.TheVariants.{Branch, Call, BranchFill}
 use Rattle.patmos_syntax.specs.Drafts.{Draft, ready, to, DraftBundle, size_of}
 use Rattle.patmos_syntax.specs.Items.{Item, function, label, bundle, faulty, line_of, items_of}
 
@@ -148,7 +148,10 @@ placed_op functions labels at (to BranchFill name) = op.BranchFill (unwrap_or (f
 
 abbrev pub placed : Lookup → Lookup → ℕ → DraftBundle → Slots
 placed functions labels at b =
-    record { first = record { guard = b.first.guard; op = placed_op functions labels at b.first.draft }; second = b.second }
+    record {
+      first = record { guard = b.first.guard; op = placed_op functions labels at b.first.draft };
+      second = b.second;
+    }
 
 -- the words of a statement that stands at this offset: a function's size, or a bundle's code
 abbrev pub item_words : Lookup → Lookup → ℕ → Item → List Item → List ℕ

@@ -7,7 +7,7 @@ use Rattle.patmos_instr.specs.Bundles.{Slots}
 use Rattle.patmos_instr.specs.declared.instructions.Op.{Op}
 use Rattle.patmos_instr.specs.declared.instructions.Op.TheVariants as op
 use Rattle.patmos_code.specs.Decoding.{bundle_at}
-use Rattle.patmos_syntax.specs.declared.forms.Flow.TheVariants.{Branch, Call, BranchFill}
+use Rattle.patmos_forms.specs.declared.forms.JumpKind.TheVariants.{Branch, Call, BranchFill}
 use Rattle.patmos_syntax.specs.Drafts.{Draft, ready, to, DraftBundle}
 use Rattle.patmos_asm.specs.Written.{bundle_text}
 use Rattle.patmos_asm.specs.Assembly.{CodeParts}

@@ -8,10 +8,10 @@ use Rattle.patmos_instr.specs.declared.guards.Guard.{Guard}
 use Rattle.patmos_instr.specs.declared.instructions.Instr.{Instr}
 use Rattle.patmos_instr.specs.declared.instructions.Op.{Op}
 use Rattle.patmos_instr.specs.declared.instructions.Op.TheVariants as op
-use Rattle.patmos_syntax.specs.declared.forms.Form.{Form}
-use Rattle.patmos_syntax.specs.declared.forms.Form.TheVariants.{AluReg, AluImm, AluLong, Mul, Cmp, CmpImm, Comb, ToSpecial, FromSpecial, Stack, Load, Store}
-use Rattle.patmos_syntax.specs.Operands.{Token, register, predicate, negation, number, offset, special, writable, sign, special_names}
-use Rattle.patmos_syntax.specs.Forms.{mnemonic, operands, flow_name}
+use Rattle.patmos_forms.specs.declared.forms.Form.{Form}
+use Rattle.patmos_forms.specs.declared.forms.Form.TheVariants.{AluReg, AluImm, AluLong, Mul, Cmp, CmpImm, Comb, ToSpecial, FromSpecial, Stack, Load, Store}
+use Rattle.patmos_forms.specs.Operands.{Token, register, predicate, negation, number, offset, special, writable, sign, special_names}
+use Rattle.patmos_forms.specs.Forms.{mnemonic, operands, flow_name}
 use Rattle.patmos_syntax.specs.Drafts.{Draft, ready, to, DraftInstr, DraftBundle}
 
 abbrev pub sign_text : ℕ → List ℕ

@@ -8,7 +8,8 @@ use crate::faults::AsmFault;
 use crate::names::{Places, labels_after, labels_of};
 use indexmap::IndexSet;
 use patmos_code::{MOST_IN_FUNCTION, MOST_IN_IMAGE};
-use patmos_syntax::{AsmKind, DraftBundle, Flow, Item};
+use patmos_forms::{AsmKind, JumpKind};
+use patmos_syntax::{DraftBundle, Item};
 use std::alloc::{AllocError, Global};
 
 /// Names that were set.
@@ -55,8 +56,8 @@ fn is_known(functions: &Places<'_>, labels: &Places<'_>, bundle: &DraftBundle) -
         DraftBundle::Waiting { jump } => {
             let name = jump.name.as_slice();
             match jump.flow {
-                Flow::Branch => has_place(name, labels),
-                Flow::Call | Flow::BranchFill => has_place(name, functions),
+                JumpKind::Branch => has_place(name, labels),
+                JumpKind::Call | JumpKind::BranchFill => has_place(name, functions),
             }
         }
     }

@@ -1,7 +1,7 @@
 ghost use Rattle.std.specs.Prelude.{◌≡◌};
 ghost use Rattle.patmos_asm.specs.declared.faults.AsmError.TheVariants.{Memory};
 
-use patmos_syntax::AsmKind;
+use patmos_forms::AsmKind;
 use tc_word::OutOfMemory;
 
 /// The fault of a text: that of its first faulty statement, and that statement's line, from 1.

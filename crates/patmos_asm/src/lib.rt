@@ -29,6 +29,6 @@ mod writers;
 pub use codes::{Code, assemble, image_of};
 pub use faults::{AsmError, AsmFault};
 pub use laws::worked_texts;
-pub use patmos_syntax::AsmKind;
+pub use patmos_forms::AsmKind;
 pub use printing::print;
 pub use writers::{write_guard, write_plain};

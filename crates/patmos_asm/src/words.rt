@@ -7,8 +7,9 @@ ghost use Rattle.patmos_syntax.specs.Shown.{shown_bundle, shown_jump, shown_item
 
 use crate::names::{Places, labels_after, labels_of};
 use patmos_code::{MOST_IN_FUNCTION, encode};
+use patmos_forms::JumpKind;
 use patmos_instr::{Addr22, Bundle, Instr, Off22, Op};
-use patmos_syntax::{DraftBundle, Flow, Item, Jump};
+use patmos_syntax::{DraftBundle, Item, Jump};
 use std::alloc::{AllocError, Global};
 
 // the words up to the next function
@@ -55,13 +56,13 @@ fn placed_op(jump: &Jump, functions: &Places<'_>, labels: &Places<'_>, at: usize
 {
     let name = jump.name.as_slice();
     match jump.flow {
-        Flow::Branch => Op::Branch {
+        JumpKind::Branch => Op::Branch {
             offset: distance(at, place_of(name, labels)),
         },
-        Flow::Call => Op::Call {
+        JumpKind::Call => Op::Call {
             target: Addr22::low(place_of(name, functions) as u32),
         },
-        Flow::BranchFill => Op::BranchFill {
+        JumpKind::BranchFill => Op::BranchFill {
             target: Addr22::low(place_of(name, functions) as u32),
         },
     }

@@ -1,11 +1,11 @@
 ghost use Rattle.std.specs.Prelude.{◌≡◌, ◌++◌, [], OnOk, string_bytes, slice_index_or, codes, if◌then◌else◌};
 ghost use Rattle.patmos_instr.specs.Specials.{special_number, writable_special_number};
-ghost use Rattle.patmos_syntax.specs.Operands.{special_names};
+ghost use Rattle.patmos_forms.specs.Operands.{special_names};
 ghost use Rattle.patmos_syntax.specs.Drafts.{ready};
 ghost use Rattle.patmos_asm.specs.Written as specs;
 
+use patmos_forms::Form;
 use patmos_instr::{Guard, ImmFunc, Instr, Op, Special, WritableSpecial};
-use patmos_syntax::Form;
 use std::alloc::AllocError;
 use std::fmt::Write;
 

@@ -10,7 +10,7 @@ use Rattle.patmos_model.specs.State.{Core}
 use Rattle.patmos_model.specs.Cycle.{with_interface, own, settled, turn}
 use Rattle.patmos_step.specs.declared.body.Body.{Body}
 use Rattle.patmos_step.specs.Shown.{core_of}
-use Rattle.patmos_step.specs.Alone.{IsAlone, DoesAlone, ComesAlone}
+use Rattle.patmos_alone.specs.Alone.{IsAlone, DoesAlone, ComesAlone}
 use Rattle.patmos_core.specs.declared.phase.Phase.{Phase}
 use Rattle.patmos_core.specs.declared.phase.Phase.TheVariants.{Delivery}
 use Rattle.patmos_core.specs.Position.{IsThere}

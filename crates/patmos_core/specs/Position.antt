@@ -61,6 +61,13 @@ pub record GoesOnAs (t t' : Tasked) : Type 0 where
   pub frame : IsFramed t.body t'.body
   pub phases : phases_done t.cycle t.phase ≤ phases_done t'.cycle t'.phase
 
+-- the core has kept its place, and has fewer phases after it, up to the next cycle at most
+pub record IsFurther (t t' : Tasked) : Type 0 where
+  pub frame : IsFramed t.body t'.body
+  pub further : phases_done t.cycle t.phase < phases_done t'.cycle t'.phase
+  pub cycle : t'.cycle ≤ t.cycle + 1
+  pub whole : t'.cycle ≡ t.cycle + 1 → t'.phase ≡ Delivery
+
 -- so does a core without one, which made none
 pub record IsResting (place : Place) (x : Core) (made : List Operation) : Type 0 where
   pub image : Parts

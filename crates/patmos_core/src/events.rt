@@ -1,4 +1,4 @@
-ghost use Rattle.std.specs.Prelude.{◌≡◌, ℕ, ◌+◌, ◌<◌, ◌≤◌, List, [], ◌∷◌, ◌++◌, take, false};
+ghost use Rattle.std.specs.Prelude.{◌≡◌, ℕ, ◌+◌, ◌<◌, ◌≤◌, [], ◌∷◌, ◌++◌, take, false};
 ghost use Rattle.patmos_step.specs.declared.ask.Ask.TheVariants as asks;
 ghost use Rattle.patmos_step.specs.Asks.{loading, ops_of, AskFits};
 ghost use Rattle.patmos_core.specs.Events.{storing, loads_from, stores_from, asked_of, AllBelow, AllUnread};

@@ -11,7 +11,7 @@ pub enum Kind {
 }
 
 impl Kind {
-    ghost use Rattle.std.specs.Prelude.{◌≡◌, ℕ, ◌*◌, ◌≤◌, ◌<◌, ◌++◌, List, Option, None, Some, IsTrue, false};
+    ghost use Rattle.std.specs.Prelude.{◌≡◌, ℕ, ◌*◌, ◌≤◌, ◌<◌, ◌++◌, List, None, Some, IsTrue, false};
     ghost use Rattle.slot_arbiter.specs.declared.event.Event as declared_event;
     ghost use Rattle.shared_order.specs.declared.operation.Operation.{Operation};
     ghost use Rattle.shared_order.specs.Event.{asked_by};

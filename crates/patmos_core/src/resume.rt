@@ -19,18 +19,14 @@ impl Tasked {
     ghost use Rattle.patmos_core.specs.declared.phase.Phase.TheVariants.{Delivery, Act, Completion};
     ghost use Rattle.patmos_model.specs.State.{Core};
     ghost use Rattle.patmos_core.specs.Waiting.{IsAskedAt};
-    ghost use Rattle.patmos_core.specs.Position.{IsOn, phases_done};
-    ghost use Rattle.patmos_step.specs.Shown.{IsFramed};
+    ghost use Rattle.patmos_core.specs.Position.{IsOn, IsFurther};
 
     /// Tells the core what the loads of the event that it asked for gave, in their order.
     pub fn resume(&mut self, values: &[u32; 8])
         requires asked { (e : Event) × IsAskedAt self.old e }
         ensures stands { (e : Event) → IsAskedAt self.old e → (x : Core) (made : List Operation)
             → IsOn self.old x made → IsOn self.new x (made ++ asked_by e values.now) }
-        ensures frame { IsFramed self.old.body self.new.body }
-        ensures further { phases_done self.old.cycle self.old.phase < phases_done self.new.cycle self.new.phase }
-        ensures cycle { self.new.cycle ≤ self.old.cycle + 1 }
-        ensures whole { self.new.cycle ≡ self.old.cycle + 1 → self.new.phase ≡ Delivery }
+        ensures further { IsFurther self.old self.new }
     {
         match self.phase {
             Phase::Delivery => self.delivered(),
@@ -47,10 +43,7 @@ impl Tasked {
         requires asked { (e : Event) × IsAskedAt self.old e }
         ensures stands { (values : List ℕ) (e : Event) → IsAskedAt self.old e → (x : Core) (made : List Operation)
             → IsOn self.old x made → IsOn self.new x (made ++ asked_by e values) }
-        ensures frame { IsFramed self.old.body self.new.body }
-        ensures further { phases_done self.old.cycle self.old.phase < phases_done self.new.cycle self.new.phase }
-        ensures cycle { self.new.cycle ≤ self.old.cycle + 1 }
-        ensures whole { self.new.cycle ≡ self.old.cycle + 1 → self.new.phase ≡ Delivery }
+        ensures further { IsFurther self.old self.new }
     {
         self.body.ni.deliver();
         self.phase = Phase::Act;
@@ -63,10 +56,7 @@ impl Tasked {
         requires asked { (e : Event) × IsAskedAt self.old e }
         ensures stands { (e : Event) → IsAskedAt self.old e → (x : Core) (made : List Operation)
             → IsOn self.old x made → IsOn self.new x (made ++ asked_by e values.now) }
-        ensures frame { IsFramed self.old.body self.new.body }
-        ensures further { phases_done self.old.cycle self.old.phase < phases_done self.new.cycle self.new.phase }
-        ensures cycle { self.new.cycle ≤ self.old.cycle + 1 }
-        ensures whole { self.new.cycle ≡ self.old.cycle + 1 → self.new.phase ≡ Delivery }
+        ensures further { IsFurther self.old self.new }
     {
         let taken = inject(&mut self.body.ni, self.cycle, values);
         let (_, rest) = values.split_at(taken);
@@ -82,10 +72,7 @@ impl Tasked {
         requires asked { (e : Event) × IsAskedAt self.old e }
         ensures stands { (e : Event) → IsAskedAt self.old e → (x : Core) (made : List Operation)
             → IsOn self.old x made → IsOn self.new x (made ++ asked_by e values.now) }
-        ensures frame { IsFramed self.old.body self.new.body }
-        ensures further { phases_done self.old.cycle self.old.phase < phases_done self.new.cycle self.new.phase }
-        ensures cycle { self.new.cycle ≤ self.old.cycle + 1 }
-        ensures whole { self.new.cycle ≡ self.old.cycle + 1 → self.new.phase ≡ Delivery }
+        ensures further { IsFurther self.old self.new }
     {
         let pending_store = self.body.transact(self.cycle, values);
         let (cycle, phase) = after_act(self.cycle, pending_store);
@@ -101,10 +88,7 @@ impl Tasked {
         requires asked { (e : Event) × IsAskedAt self.old e }
         ensures stands { (values : List ℕ) (e : Event) → IsAskedAt self.old e → (x : Core) (made : List Operation)
             → IsOn self.old x made → IsOn self.new x (made ++ asked_by e values) }
-        ensures frame { IsFramed self.old.body self.new.body }
-        ensures further { phases_done self.old.cycle self.old.phase < phases_done self.new.cycle self.new.phase }
-        ensures cycle { self.new.cycle ≤ self.old.cycle + 1 }
-        ensures whole { self.new.cycle ≡ self.old.cycle + 1 → self.new.phase ≡ Delivery }
+        ensures further { IsFurther self.old self.new }
     {
         self.cycle += 1;
         self.phase = Phase::Delivery;

@@ -12,11 +12,9 @@ use patmos_step::{Ask, Plan, comm_word};
 use slot_arbiter::{Event, MOST_CYCLES, stamp_of};
 
 impl Tasked {
-    ghost use Rattle.std.specs.Prelude.{◌≡◌, ℕ, ◌+◌, ◌*◌, ◌≤◌, ◌<◌, ◌++◌, true, false, List, [], Option, None, IfSome, IsNone, IsSome, IsTrue};
-    ghost use Rattle.shared_order.specs.Program.{fed};
+    ghost use Rattle.std.specs.Prelude.{◌≡◌, ℕ, ◌+◌, ◌*◌, ◌≤◌, ◌<◌, ◌++◌, true, false, [], Option, None, IsNone, IsSome, IsTrue};
     ghost use Rattle.argo_ni.specs.Interface.{Interface};
     ghost use Rattle.argo_ni.specs.Packet as packets;
-    ghost use Rattle.argo_ni.specs.Event.{half_of};
     ghost use Rattle.patmos_step.specs.declared.ask.Ask.TheVariants as asks;
     ghost use Rattle.patmos_core.specs.declared.phase.Phase.TheVariants.{Delivery, Act};
     ghost use Rattle.patmos_model.specs.State.{History, is_running};

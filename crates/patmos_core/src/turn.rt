@@ -3,12 +3,13 @@ use crate::phase::Phase;
 use crate::tasked::Tasked;
 use crate::window::next_act;
 use argo_ni::{NiEvent, NiKind};
+use patmos_alone::run_alone;
 use patmos_model::PendingStore;
 use patmos_step::{Ask, comm_word};
 use slot_arbiter::{Event, MOST_CYCLES, stamp_of};
 
 impl Tasked {
-    ghost use Rattle.std.specs.Prelude.{◌≡◌, ℕ, ◌+◌, ◌*◌, ◌≤◌, ◌<◌, true, false, List, IfSome, IsNone, IsTrue};
+    ghost use Rattle.std.specs.Prelude.{◌≡◌, ℕ, ◌+◌, ◌*◌, ◌≤◌, ◌<◌, true, false, IfSome, IsNone, IsTrue};
     ghost use Rattle.argo_ni.specs.Turn.{acts};
     ghost use Rattle.argo_ni.specs.Event.{half_of, IsNextAct, IsDelivery};
     ghost use Rattle.patmos_core.specs.declared.phase.Phase.TheVariants.{Delivery, Act};
@@ -40,7 +41,7 @@ impl Tasked {
         ensures ni { self.new.body.ni ≡ self.old.body.ni }
     {
         let until = self.still_until(next, limit);
-        self.cycle = self.body.run_alone(self.cycle, until);
+        self.cycle = run_alone(&mut self.body, self.cycle, until);
         self.cycle < until
     }
 

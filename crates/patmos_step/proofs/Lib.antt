@@ -3,15 +3,11 @@ pub mod Granted
 pub mod MainCells
 pub mod Places
 pub mod Fetching
-pub mod ByItself
-pub mod AtOnce
-pub mod OwnWords
-pub mod Waits
 pub mod Silent
 pub mod Spills
 pub mod Traces
-pub mod Sleeping
 pub mod Rests
+pub mod Moves
 pub mod Short
 pub mod Own
 pub mod Asked

@@ -7,7 +7,7 @@ use Rattle.patmos_model.specs.declared.pending_store.PendingStore.{PendingStore}
 use Rattle.patmos_step.specs.declared.body.Body.{Body}
 use Rattle.patmos_model.specs.declared.flow.Flow.{Flow}
 use Rattle.patmos_model.specs.declared.flow.Goal.{Goal}
-use Rattle.patmos_model.specs.declared.flow.Goal.TheVariants.{Within, Call, Fill, Return}
+use Rattle.patmos_model.specs.declared.flow.Goal.TheVariants.{Within}
 use Rattle.patmos_step.specs.declared.plan.Plan.{Plan}
 use Rattle.patmos_step.specs.declared.plan.Plan.TheVariants.{Nothing, Waits, Does}
 use Rattle.patmos_model.specs.declared.trap.Trap.TheVariants as trap

@@ -54,7 +54,7 @@ use Rattle.patmos_step.specs.Shown.{Shows, core_of, plain_of}
 use Rattle.patmos_step.specs.Asks.{LeavesPending, Ends, Loads, Stores, AsksFor, FollowsAsk, AskFits, load_ask, line_ask, word_ask, store_ask, then_ask, slot_ask, cached_ask, loaded_ask, stored_ask, effect_ask, fetched_ask, plan_ask}
 use Rattle.shared_order.proofs.Parts.{then-done}
 use Rattle.patmos_model.proofs.CellRanges.{cell_in_range, line_fits, LineFits}
-use Rattle.patmos_step.proofs.OwnWords.{own_moves}
+use Rattle.patmos_step.proofs.Moves.{own_moves}
 use Rattle.patmos_step.proofs.Short.{none_moved}
 
 -- a program that goes on where another ends

@@ -5,6 +5,4 @@ pub mod Plan
 pub mod Shown
 pub mod Asks
 pub mod Facts
-pub mod Alone
-pub mod AtOnce
 pub mod Moving

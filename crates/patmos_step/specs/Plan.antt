@@ -1,13 +1,14 @@
 -- To be believed. What a core does in its own act in a cycle once a flow that was due has taken effect, told before it
 -- does it.
-use Rattle.std.specs.Prelude.{◌≡◌, ℕ, ◌<◌, true, false, None, IfSome}
+use Rattle.std.specs.Prelude.{◌≡◌, ℕ, ◌+◌, ◌<◌, true, false, None, IfSome}
 use Rattle.shared_order.specs.Program.{Prog, and_then}
+use Rattle.patmos_sem.specs.declared.effects.Effect.{Effect}
 use Rattle.patmos_step.specs.declared.plan.Plan.{Plan}
 use Rattle.patmos_step.specs.declared.plan.Plan.TheVariants.{Nothing, Waits, Does}
 use Rattle.patmos_model.specs.State.{Plain, Core, is_running, is_free}
-use Rattle.patmos_model.specs.Flows.{flowed}
+use Rattle.patmos_model.specs.Flows.{flowed, counted}
 use Rattle.patmos_model.specs.Cells.{Acted, now}
-use Rattle.patmos_model.specs.Bundle.{fetched_at, done_as, IsWithin}
+use Rattle.patmos_model.specs.Bundle.{fetched_at, asked_flow, done_as, IsWithin}
 use Rattle.patmos_model.specs.Cycle.{slot_step}
 
 -- nothing where the core does not run, and else what it fetches, if it is free
@@ -43,3 +44,7 @@ PlanFits offset size plan = elim plan [
   | Waits ↦ Unit {0}
   | Does fetched ↦ IsWithin offset size fetched
 ]
+
+-- the core with the offset and the flow after a bundle of so many words that asks for this
+abbrev pub passed : ℕ → Effect → Plain → Plain
+passed words asked x = record x { offset = x.offset + words; flow = counted x.flow (asked_flow x.offset asked) }

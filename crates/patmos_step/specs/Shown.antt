@@ -47,13 +47,22 @@ pub record IsActed (b : Body) (left : Option PendingStore) (a : Acted) : Type 0 
   pub at : IsAt b a.core
   pub leaves : a.pending_store ≡ left
 
--- only the stack and private memory may differ
-pub record SameBut (b b' : Body) : Type 0 where
-  pub plain : plain_of b' ≡ record (plain_of b) { stack = b'.stack; private = slice_index b'.store.private }
-  pub ni : b'.ni ≡ b.ni
-  pub shows : (h : History) → Shows b h → Shows b' h
-
--- the core has the same place, and its trace the same room
+-- the core keeps its place, and its trace its room
 pub record IsFramed (b b' : Body) : Type 0 where
   pub place : b'.place ≡ b.place
   pub room : b'.room ≡ b.room
+
+-- so it does, and its interface is as it was
+pub record KeepsInterface (b b' : Body) : Type 0 where
+  pub ni : b'.ni ≡ b.ni
+  pub frame : IsFramed b b'
+
+-- no more than the plain part of its state may differ
+pub record OnlyPlain (b b' : Body) : Type 0 where
+  pub shows : (h : History) → Shows b h → Shows b' h
+  pub keeps : KeepsInterface b b'
+
+-- only the stack and private memory may differ
+pub record SameBut (b b' : Body) : Type 0 where
+  pub plain : plain_of b' ≡ record (plain_of b) { stack = b'.stack; private = slice_index b'.store.private }
+  pub only : OnlyPlain b b'

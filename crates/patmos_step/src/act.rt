@@ -10,7 +10,7 @@ impl Body {
     ghost use Rattle.patmos_model.specs.Cycle as cycles;
     ghost use Rattle.patmos_step.specs.Plan.{planned, settled_at, carried_out, IsSettled, PlanFits};
     ghost use Rattle.patmos_step.specs.Ready.{StoresWithin, IsReady, CanGoOn};
-    ghost use Rattle.patmos_step.specs.Shown.{Shows, IsAt, IsActed, IsFramed, core_of, plain_of};
+    ghost use Rattle.patmos_step.specs.Shown.{Shows, IsAt, IsActed, IsFramed, core_of, plain_of, KeepsInterface};
 
     /// The core's own act in a cycle: a flow that is due takes effect, then a bundle is done, then words are
     /// moved; each where it can be.
@@ -35,8 +35,7 @@ impl Body {
         ensures at { (h : History) → Shows self.old h → IsAt self.new (settled_at cycle (core_of self.old h)) }
         ensures settled { is_running (plain_of self.new) ≡ true → IsSettled cycle (plain_of self.new) }
         ensures can { CanGoOn self.new }
-        ensures ni { self.new.ni ≡ self.old.ni }
-        ensures frame { IsFramed self.old self.new }
+        ensures keeps { KeepsInterface self.old self.new }
     {
         if self.is_running() {
             self.flow(cycle);

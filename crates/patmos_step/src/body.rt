@@ -50,17 +50,15 @@ pub struct Body {
 }
 
 impl Body {
-    ghost use Rattle.patmos_model.specs.State.{History, stopped};
+    ghost use Rattle.patmos_model.specs.State.{stopped};
     ghost use Rattle.patmos_step.specs.Ready.{CanGoOn};
-    ghost use Rattle.patmos_step.specs.Shown.{Shows, IsFramed, plain_of};
+    ghost use Rattle.patmos_step.specs.Shown.{plain_of, OnlyPlain};
 
     /// Stops the core in a cycle.
     pub fn stop(&mut self, trap: Trap, cycle: u64)
         ensures stopped { plain_of self.new ≡ stopped trap cycle (plain_of self.old) }
-        ensures shows { (h : History) → Shows self.old h → Shows self.new h }
-        ensures ni { self.new.ni ≡ self.old.ni }
         ensures can { CanGoOn self.old → CanGoOn self.new }
-        ensures frame { IsFramed self.old self.new }
+        ensures only { OnlyPlain self.old self.new }
     {
         self.status = Status::Trapped { trap, at: cycle };
     }

@@ -19,7 +19,7 @@ impl Body {
     ghost use Rattle.patmos_model.specs.State.{History};
     ghost use Rattle.patmos_model.specs.Cells.{Acted};
     ghost use Rattle.patmos_step.specs.Ready.{StoresWithin, IsReadable, IsReady, IsOther, IsAtRest};
-    ghost use Rattle.patmos_step.specs.Shown.{Shows, IsAt, IsActed, IsFramed, core_of, plain_of};
+    ghost use Rattle.patmos_step.specs.Shown.{Shows, IsAt, IsActed, IsFramed, core_of, plain_of, OnlyPlain};
 
     /// The word in a cell: that of the board is the first of the values heard.
     pub fn read(&self, cell: Option<Cell>, values: &[u32]) -> u32
@@ -90,10 +90,8 @@ impl Body {
         requires { word < SCRATCH_WORDS }
         ensures plain { plain_of self.new
             ≡ record (plain_of self.old) { scratch = put word value (slice_index self.old.store.scratch) } }
-        ensures shows { (h : History) → Shows self.old h → Shows self.new h }
-        ensures ni { self.new.ni ≡ self.old.ni }
         ensures rest { IsAtRest self.old → IsAtRest self.new }
-        ensures frame { IsFramed self.old self.new }
+        ensures only { OnlyPlain self.old self.new }
     {
         self.store.write(Cell::Scratch(word), value);
     }
@@ -104,10 +102,8 @@ impl Body {
         requires { word < PRIVATE_WORDS }
         ensures plain { plain_of self.new
             ≡ record (plain_of self.old) { private = put word value (slice_index self.old.store.private) } }
-        ensures shows { (h : History) → Shows self.old h → Shows self.new h }
-        ensures ni { self.new.ni ≡ self.old.ni }
         ensures rest { IsAtRest self.old → IsAtRest self.new }
-        ensures frame { IsFramed self.old self.new }
+        ensures only { OnlyPlain self.old self.new }
     {
         self.store.write(Cell::Private(word), value);
     }

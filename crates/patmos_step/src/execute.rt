@@ -13,16 +13,16 @@ impl Body {
     ghost use Rattle.shared_order.specs.Program.{fed};
     ghost use Rattle.patmos_sem.specs.declared.pending.Pending.TheVariants as pending;
     ghost use Rattle.patmos_sem.specs.Effects.{width_bytes, store_bytes};
-    ghost use Rattle.patmos_model.specs.State.{History, with_plain};
+    ghost use Rattle.patmos_model.specs.State.{History};
     ghost use Rattle.stack_cache.specs.Stack.{IsStack};
     ghost use Rattle.patmos_sem.specs.Bundles.{effect_of, OnLoad};
     ghost use Rattle.patmos_model.specs.declared.transfer.Then.TheVariants as then_on;
     ghost use Rattle.patmos_model.specs.Transfers.{writes};
     ghost use Rattle.patmos_model.specs.Checks.{load_fault, store_fault, is_held};
     ghost use Rattle.patmos_model.specs.Cells.{with_value};
-    ghost use Rattle.patmos_step.specs.Alone.{passed};
+    ghost use Rattle.patmos_step.specs.Plan.{passed};
     ghost use Rattle.patmos_step.specs.Ready.{StoresWithin, IsReady, IsGranted, IsAtRest, CanGoOn};
-    ghost use Rattle.patmos_step.specs.Shown.{Shows, IsAt, IsActed, IsFramed, core_of, plain_of};
+    ghost use Rattle.patmos_step.specs.Shown.{Shows, IsAt, IsActed, IsFramed, core_of, plain_of, OnlyPlain, KeepsInterface};
 
     /// Does a bundle of so many words, unless a check fails.
     pub fn perform(
@@ -59,12 +59,10 @@ impl Body {
         requires asks { effect.now ≡ effect_of bundle.now self.old.regs }
         ensures plain { plain_of self.new ≡ bundles.advanced words bundle.now (plain_of self.old) }
         ensures pending { OnLoad effect.now (self.new.regs.pending ≡ pending.Nothing) }
-        ensures shows { (h : History) → Shows self.old h → Shows self.new h }
-        ensures ni { self.new.ni ≡ self.old.ni }
         ensures stack { self.new.stack ≡ self.old.stack }
         ensures held { IsStack self.new.stack }
         ensures rest { IsAtRest self.old → IsAtRest self.new }
-        ensures frame { IsFramed self.old self.new }
+        ensures only { OnlyPlain self.old self.new }
     {
         write_back(&mut self.regs, bundle, self.stack.st(), self.stack.ss());
         self.pass(words, effect);
@@ -74,12 +72,10 @@ impl Body {
     pub fn pass(&mut self, words: u32, effect: &Effect)
         requires within { self.old.offset + words < 2 ^ 32 }
         ensures plain { plain_of self.new ≡ passed words effect.now (plain_of self.old) }
-        ensures shows { (h : History) → Shows self.old h → Shows self.new h }
-        ensures ni { self.new.ni ≡ self.old.ni }
         ensures regs { self.new.regs ≡ self.old.regs }
         ensures stack { self.new.stack ≡ self.old.stack }
         ensures rest { IsAtRest self.old → IsAtRest self.new }
-        ensures frame { IsFramed self.old self.new }
+        ensures only { OnlyPlain self.old self.new }
     {
         match &mut self.flow {
             Some(flow) => flow.slots = flow.slots.saturating_sub(1),
@@ -144,9 +140,8 @@ impl Body {
         ensures done { (s : ℕ) (h : History) → Shows self.old h
             → IsActed self.new None (fed s
             (bundles.loaded space width rd address cycle (core_of self.old h)) values.now).core }
-        ensures ni { self.new.ni ≡ self.old.ni }
         ensures can { CanGoOn self.new }
-        ensures frame { IsFramed self.old self.new }
+        ensures keeps { KeepsInterface self.old self.new }
     {
         match space {
             Mem::S => {
@@ -172,10 +167,8 @@ impl Body {
         requires ready { IsReady cycle self.old.ni }
         requires rest { IsAtRest self.old }
         ensures plain { plain_of self.new ≡ bundles.ends cycle (with_value rd width address word (plain_of self.old)) }
-        ensures shows { (h : History) → Shows self.old h → Shows self.new h }
-        ensures ni { self.new.ni ≡ self.old.ni }
         ensures rest { IsAtRest self.new }
-        ensures frame { IsFramed self.old self.new }
+        ensures only { OnlyPlain self.old self.new }
     {
         arrive(&mut self.regs, rd, pick(width, address, word));
         self.end(cycle);
@@ -190,9 +183,8 @@ impl Body {
         requires rest { IsAtRest self.old }
         ensures done { (h : History) → Shows self.old h
             → IsAt self.new (bundles.cache_loaded rd width address cycle (core_of self.old h)) }
-        ensures ni { self.new.ni ≡ self.old.ni }
         ensures can { CanGoOn self.new }
-        ensures frame { IsFramed self.old self.new }
+        ensures keeps { KeepsInterface self.old self.new }
     {
         match self.cache.probe(address) {
             Some(word) => self.load_value(rd, width, address, word, cycle),
@@ -254,10 +246,8 @@ impl Body {
         requires rest { IsAtRest self.old }
         ensures plain { plain_of self.new
             ≡ bundles.moves (writes 1 (then_on.Store cached width address value)) cycle (plain_of self.old) }
-        ensures shows { (h : History) → Shows self.old h → Shows self.new h }
-        ensures ni { self.new.ni ≡ self.old.ni }
         ensures can { CanGoOn self.new }
-        ensures frame { IsFramed self.old self.new }
+        ensures only { OnlyPlain self.old self.new }
     {
         let then = Then::Store {
             cached,
@@ -274,10 +264,8 @@ impl Body {
         requires held { is_held self.old.stack address ≡ true }
         ensures plain { plain_of self.new
             ≡ record (plain_of self.old) { stack = bundles.stack_set width address value self.old.stack } }
-        ensures shows { (h : History) → Shows self.old h → Shows self.new h }
-        ensures ni { self.new.ni ≡ self.old.ni }
         ensures rest { IsAtRest self.old → IsAtRest self.new }
-        ensures frame { IsFramed self.old self.new }
+        ensures only { OnlyPlain self.old self.new }
     {
         let Some(old) = self.stack.get(address / 4) else {
             unreachable!()

@@ -3,7 +3,7 @@ use crate::code::Decoded;
 use patmos_model::Fetched;
 
 impl Body {
-    ghost use Rattle.std.specs.Prelude.{◌≡◌, ◌+◌, ◌≤◌, ◌<◌, false, true, IsNone, IfSome, slice_index};
+    ghost use Rattle.std.specs.Prelude.{◌≡◌, ◌+◌, ◌≤◌, ◌<◌, false, IsNone, IfSome};
     ghost use Rattle.patmos_model.specs.Site.{is_inside};
     ghost use Rattle.patmos_model.specs.Bundle.{fetched_at, IsWithin};
     ghost use Rattle.patmos_step.specs.Code.{StandsAt};

@@ -12,7 +12,7 @@ impl Body {
     ghost use Rattle.patmos_model.specs.Flows as flows;
     ghost use Rattle.patmos_step.specs.Plan.{IsSettled};
     ghost use Rattle.patmos_step.specs.Ready.{CanGoOn};
-    ghost use Rattle.patmos_step.specs.Shown.{Shows, IsAt, IsFramed, core_of, plain_of};
+    ghost use Rattle.patmos_step.specs.Shown.{Shows, IsAt, core_of, plain_of, KeepsInterface};
 
     /// A flow without a delay slot left takes effect, if the core is free in the cycle.
     #[tactic(auto, unfolding(patmos_model::specs::Flows::flowed))]
@@ -21,8 +21,7 @@ impl Body {
         ensures at { (h : History) → Shows self.old h → IsAt self.new (flows.flowed cycle (core_of self.old h)) }
         ensures settled { is_running (plain_of self.new) ≡ true → IsSettled cycle (plain_of self.new) }
         ensures can { CanGoOn self.new }
-        ensures ni { self.new.ni ≡ self.old.ni }
-        ensures frame { IsFramed self.old self.new }
+        ensures keeps { KeepsInterface self.old self.new }
     {
         if self.transfer.words != 0 || self.free != cycle {
             return;
@@ -39,8 +38,7 @@ impl Body {
         ensures at { (h : History) → Shows self.old h → IsAt self.new (flows.taken cycle goal (core_of self.old h)) }
         ensures gone { is_running (plain_of self.new) ≡ true → self.new.flow ≡ None }
         ensures can { CanGoOn self.new }
-        ensures ni { self.new.ni ≡ self.old.ni }
-        ensures frame { IsFramed self.old self.new }
+        ensures keeps { KeepsInterface self.old self.new }
     {
         match goal {
             Goal::Within { offset } => self.branch(offset, cycle),
@@ -63,8 +61,7 @@ impl Body {
             → IsAt self.new (flows.taken cycle (Goal.Within offset) (core_of self.old h)) }
         ensures gone { is_running (plain_of self.new) ≡ true → self.new.flow ≡ None }
         ensures can { CanGoOn self.new }
-        ensures ni { self.new.ni ≡ self.old.ni }
-        ensures frame { IsFramed self.old self.new }
+        ensures keeps { KeepsInterface self.old self.new }
     {
         if offset < self.size {
             self.offset = offset;
@@ -81,8 +78,7 @@ impl Body {
             → IsAt self.new (flows.taken cycle (Goal.Return base offset) (core_of self.old h)) }
         ensures gone { is_running (plain_of self.new) ≡ true → self.new.flow ≡ None }
         ensures can { CanGoOn self.new }
-        ensures ni { self.new.ni ≡ self.old.ni }
-        ensures frame { IsFramed self.old self.new }
+        ensures keeps { KeepsInterface self.old self.new }
     {
         match self.place(base, offset) {
             Some(size) => self.enter(base, offset, size),
@@ -110,8 +106,7 @@ impl Body {
         ensures at { (h : History) → Shows self.old h → IsAt self.new (flows.entered base offset (core_of self.old h)) }
         ensures gone { self.new.flow ≡ None }
         ensures can { CanGoOn self.new }
-        ensures ni { self.new.ni ≡ self.old.ni }
-        ensures frame { IsFramed self.old self.new }
+        ensures keeps { KeepsInterface self.old self.new }
     {
         let transactions = self.methods.touch(base, size);
         self.transfer = if transactions == 0 {

@@ -11,11 +11,7 @@
 //! - `execute`, `cells`, `stack`: the bundle's registers, its load or store, its stack instruction;
 //! - `transact`: up to four words move in a slot of main memory;
 //! - `act`: all of them in the order of a cycle, with the values that the core's loads gave;
-//! - `alone`, `quick`, `private`, `finish`, `moving`: the cycles that a core goes through by itself, one after
-//!   another in a loop of their own, with its bundles, its waiting and the words of its own memory
-//!   ([`Body::run_alone`]);
 //! - `ask`: what the act will want of the board's words, known before its loads give their values ([`Ask`]);
-//! - `next_active`: the first cycle in which the core may do something of its own;
 //! - `report`: how far the task has come, and the words of the core's own memories.
 //!
 //! No step takes memory; [`Body::new`] does, once.
@@ -24,7 +20,6 @@
 #![tactic(auto)]
 
 mod act;
-mod alone;
 mod ask;
 mod begin;
 mod body;
@@ -33,21 +28,17 @@ mod check;
 mod code;
 mod execute;
 mod fetch;
-mod finish;
 mod flow;
-mod moving;
-mod next_active;
 mod plan;
-mod private;
-mod quick;
 mod report;
 mod stack;
 mod transact;
 mod values;
 
-pub use alone::NextBundle;
 pub use ask::Ask;
 pub use body::Body;
 pub use cells::comm_word;
+pub use check::cell_of;
 pub use code::{Class, Decoded};
+pub use execute::branch_target;
 pub use plan::Plan;

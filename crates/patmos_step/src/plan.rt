@@ -14,9 +14,10 @@ pub enum Plan {
 }
 
 impl Body {
-    ghost use Rattle.std.specs.Prelude.{◌≡◌, ◌≤◌};
+    ghost use Rattle.std.specs.Prelude.{◌≡◌, ◌↔◌, ◌≤◌, IsTrue};
     ghost use Rattle.patmos_model.specs.State.{is_running, has_ended, is_free};
     ghost use Rattle.patmos_model.specs.Transaction.{is_due};
+    ghost use Rattle.patmos_step.specs.Moving.{HasToMove};
     ghost use Rattle.patmos_step.specs.Plan.{planned, PlanFits};
     ghost use Rattle.patmos_step.specs.Shown.{plain_of};
     ghost use Rattle.slot_arbiter.specs.Slot.{is_slot_start};
@@ -65,6 +66,14 @@ impl Body {
         ensures { result ≡ is_free cycle (plain_of self.now) }
     {
         self.transfer.words == 0 && self.free == cycle
+    }
+
+    /// Whether words are to be moved.
+    #[inline(always)]
+    pub fn is_moving(&self) -> bool
+        ensures { IsTrue result ↔ HasToMove (plain_of self.now) }
+    {
+        matches!(self.status, Status::Running) && 0 < self.transfer.words
     }
 
     /// Whether words are to be moved, and can be in this cycle.

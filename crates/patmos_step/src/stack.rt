@@ -7,11 +7,10 @@ impl Body {
     ghost use Rattle.std.specs.Prelude.{◌≡◌, ◌≤◌, true, length, slice_index};
     ghost use Rattle.patmos_instr.specs.declared.functions.StackFunc.TheVariants.{Sres, Sens, Sfree};
     ghost use Rattle.stack_cache.specs.Stack.{IsStack, reserved, spilled, missing};
-    ghost use Rattle.patmos_model.specs.State.{History};
     ghost use Rattle.patmos_model.specs.Checks.{has_room};
     ghost use Rattle.patmos_model.specs.Bundle.{stacked, moves, ends, with_words, refilled};
     ghost use Rattle.patmos_step.specs.Ready.{IsAtRest, CanGoOn, CanMove};
-    ghost use Rattle.patmos_step.specs.Shown.{Shows, SameBut, IsFramed, plain_of};
+    ghost use Rattle.patmos_step.specs.Shown.{SameBut, plain_of, OnlyPlain};
 
     /// Carries out a stack instruction that has room for so many words.
     pub fn stack_op(&mut self, func: StackFunc, count: u32, cycle: u64)
@@ -20,10 +19,8 @@ impl Body {
         requires early { cycle ≤ MOST_CYCLES }
         requires rest { IsAtRest self.old }
         ensures plain { plain_of self.new ≡ stacked func count cycle (plain_of self.old) }
-        ensures shows { (h : History) → Shows self.old h → Shows self.new h }
-        ensures ni { self.new.ni ≡ self.old.ni }
         ensures can { CanGoOn self.new }
-        ensures frame { IsFramed self.old self.new }
+        ensures only { OnlyPlain self.old self.new }
     {
         match func {
             StackFunc::Sres => self.reserve(count, cycle),
@@ -38,10 +35,8 @@ impl Body {
         requires early { cycle ≤ MOST_CYCLES }
         requires rest { IsAtRest self.old }
         ensures plain { plain_of self.new ≡ stacked Sres count cycle (plain_of self.old) }
-        ensures shows { (h : History) → Shows self.old h → Shows self.new h }
-        ensures ni { self.new.ni ≡ self.old.ni }
         ensures can { CanGoOn self.new }
-        ensures frame { IsFramed self.old self.new }
+        ensures only { OnlyPlain self.old self.new }
     {
         let moved = self.spill(count);
         self.moves(Transfer::write(moved, Then::Nothing), cycle);
@@ -59,7 +54,6 @@ impl Body {
             (slice_index self.old.store.private) }
         ensures same { SameBut self.old self.new }
         ensures rest { IsAtRest self.old → IsAtRest self.new }
-        ensures frame { IsFramed self.old self.new }
     {
         let private = self.store.private();
         let Ok(moved) = self.stack.reserve(count, private) else {
@@ -74,10 +68,8 @@ impl Body {
         requires early { cycle ≤ MOST_CYCLES }
         requires rest { IsAtRest self.old }
         ensures plain { plain_of self.new ≡ stacked Sens count cycle (plain_of self.old) }
-        ensures shows { (h : History) → Shows self.old h → Shows self.new h }
-        ensures ni { self.new.ni ≡ self.old.ni }
         ensures can { CanGoOn self.new }
-        ensures frame { IsFramed self.old self.new }
+        ensures only { OnlyPlain self.old self.new }
     {
         let moved = self.refill(count);
         self.moves(Transfer::read(moved, Then::Nothing), cycle);
@@ -93,7 +85,6 @@ impl Body {
         ensures private { slice_index self.new.store.private ≡ slice_index self.old.store.private }
         ensures same { SameBut self.old self.new }
         ensures rest { IsAtRest self.old → IsAtRest self.new }
-        ensures frame { IsFramed self.old self.new }
     {
         let private = self.store.private();
         let Ok(moved) = self.stack.ensure(count, private) else {
@@ -109,10 +100,8 @@ impl Body {
         requires early { cycle ≤ MOST_CYCLES }
         requires rest { IsAtRest self.old }
         ensures plain { plain_of self.new ≡ stacked Sfree count cycle (plain_of self.old) }
-        ensures shows { (h : History) → Shows self.old h → Shows self.new h }
-        ensures ni { self.new.ni ≡ self.old.ni }
         ensures can { CanGoOn self.new }
-        ensures frame { IsFramed self.old self.new }
+        ensures only { OnlyPlain self.old self.new }
     {
         let Ok(()) = self.stack.free(count) else {
             unreachable!()
@@ -125,10 +114,8 @@ impl Body {
         requires early { cycle ≤ MOST_CYCLES }
         requires rest { IsAtRest self.old }
         ensures plain { plain_of self.new ≡ ends cycle (plain_of self.old) }
-        ensures shows { (h : History) → Shows self.old h → Shows self.new h }
-        ensures ni { self.new.ni ≡ self.old.ni }
         ensures rest { IsAtRest self.new }
-        ensures frame { IsFramed self.old self.new }
+        ensures only { OnlyPlain self.old self.new }
     {
         self.free = cycle + 1;
     }
@@ -140,10 +127,8 @@ impl Body {
         requires can { CanMove self.old.regs transfer.then }
         requires rest { IsAtRest self.old }
         ensures plain { plain_of self.new ≡ moves transfer cycle (plain_of self.old) }
-        ensures shows { (h : History) → Shows self.old h → Shows self.new h }
-        ensures ni { self.new.ni ≡ self.old.ni }
         ensures can { CanGoOn self.new }
-        ensures frame { IsFramed self.old self.new }
+        ensures only { OnlyPlain self.old self.new }
     {
         if transfer.words == 0 {
             self.end(cycle);

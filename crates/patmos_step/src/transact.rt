@@ -1,4 +1,4 @@
-ghost use Rattle.std.specs.Prelude.{◌≡◌, ℕ, ◌%◌, ◌≤◌, true, List, [], ◌∷◌, IfSome, slice_index};
+ghost use Rattle.std.specs.Prelude.{◌≡◌, ℕ, ◌%◌, ◌≤◌, List, [], ◌∷◌, IfSome, slice_index};
 ghost use Rattle.slot_arbiter.specs.declared.place.Place.{Place};
 ghost use Rattle.local_store.specs.declared.map.Space.TheVariants.{Main};
 ghost use Rattle.patmos_model.specs.Cells.{Acted, cell_of};
@@ -26,7 +26,7 @@ impl Body {
     ghost use Rattle.patmos_model.specs.Cells.{reading_line, with_value};
     ghost use Rattle.patmos_model.specs.Transaction as specs;
     ghost use Rattle.patmos_step.specs.Ready.{StoresWithin, IsReady, IsAwaited, CanMove, IsAtRest, CanGoOn};
-    ghost use Rattle.patmos_step.specs.Shown.{Shows, IsAt, IsActed, IsFramed, core_of, plain_of};
+    ghost use Rattle.patmos_step.specs.Shown.{Shows, IsAt, IsActed, IsFramed, core_of, plain_of, OnlyPlain, KeepsInterface};
 
     /// Moves the words of a slot that starts in this cycle.
     #[tactic(auto, using(crate::proofs::Rests::can_at_rest), unfolding(patmos_model::specs::Transaction::transaction))]
@@ -91,10 +91,9 @@ impl Body {
         requires early { cycle ≤ MOST_CYCLES }
         ensures plain { plain_of self.new ≡ specs.moved cycle (plain_of self.old) }
         ensures shows { (h : History) → Shows self.old h → Shows self.new (specs.accessed self.old.transfer cycle h) }
-        ensures ni { self.new.ni ≡ self.old.ni }
         ensures regs { self.new.regs ≡ self.old.regs }
         ensures rest { IsAtRest self.new }
-        ensures frame { IsFramed self.old self.new }
+        ensures keeps { KeepsInterface self.old self.new }
     {
         if self.trace.len() < self.room {
             let access = Access {
@@ -113,10 +112,8 @@ impl Body {
     pub fn arrive(&mut self, rd: Reg, width: Width, address: u32, word: u32)
         requires awaited { IsAwaited self.old.regs (width_bytes width) address }
         ensures plain { plain_of self.new ≡ with_value rd width address word (plain_of self.old) }
-        ensures shows { (h : History) → Shows self.old h → Shows self.new h }
-        ensures ni { self.new.ni ≡ self.old.ni }
         ensures rest { IsAtRest self.old → IsAtRest self.new }
-        ensures frame { IsFramed self.old self.new }
+        ensures only { OnlyPlain self.old self.new }
     {
         arrive(&mut self.regs, rd, pick(width, address, word));
     }
@@ -148,9 +145,8 @@ impl Body {
         ensures plain { plain_of self.new
             ≡ with_value rd width address (slice_index words (place_of address)) (plain_of self.old) }
         ensures shows { (h : History) → Shows self.old h → Shows self.new (specs.with_line address words h) }
-        ensures ni { self.new.ni ≡ self.old.ni }
         ensures rest { IsAtRest self.old → IsAtRest self.new }
-        ensures frame { IsFramed self.old self.new }
+        ensures keeps { KeepsInterface self.old self.new }
     {
         self.arrive(rd, width, address, words[(address / 4 % 4) as usize]);
         self.cache.fill(address, words);
@@ -162,9 +158,8 @@ impl Body {
         requires ready { IsReady cycle self.old.ni }
         ensures at { (h : History) → Shows self.old h
             → IsAt self.new (specs.line_taken rd width address words (specs.counted cycle (core_of self.old h))) }
-        ensures ni { self.new.ni ≡ self.old.ni }
         ensures rest { IsAtRest self.new }
-        ensures frame { IsFramed self.old self.new }
+        ensures keeps { KeepsInterface self.old self.new }
     {
         self.count(cycle);
         self.fill_line(rd, width, address, words);
@@ -176,10 +171,9 @@ impl Body {
         ensures plain { plain_of self.new ≡ plain_of self.old }
         ensures shows { (h : History) → Shows self.old h
             → Shows self.new (specs.with_store cached width address value h) }
-        ensures ni { self.new.ni ≡ self.old.ni }
         ensures place { self.new.place ≡ self.old.place }
         ensures rest { IsAtRest self.old → IsAtRest self.new }
-        ensures frame { IsFramed self.old self.new }
+        ensures keeps { KeepsInterface self.old self.new }
     {
         if cached {
             let old = self.cache.probe(address).unwrap_or(0);

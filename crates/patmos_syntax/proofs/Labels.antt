@@ -2,7 +2,7 @@
 use Rattle.std.proofs.Common.{◌≡◌, ℕ, zero, suc, ◌<◌, ◌≤◌, cond, Bool, true, false, List, [], ◌∷◌, length, refl, sym, ap, arith, Option, Some, None, length-drop}
 use Rattle.std.proofs.lemmas.Option.{cond_some}
 use Rattle.std.specs.Option.{option_map}
-use Rattle.patmos_syntax.specs.Readers.{is_blank, without_blanks, word_len, word_at, is_name, sign_in_front, sign_at, at_end}
+use Rattle.patmos_forms.specs.Readers.{is_blank, without_blanks, word_len, word_at, is_name, sign_in_front, sign_at, at_end}
 use Rattle.patmos_syntax.specs.Items.{label, label_at, statement_of, items_after, items_in}
 
 shorter_byte : (b : ℕ) (bs : List ℕ) (t : Bool) → is_blank b ≡ t → length (without_blanks bs) ≤ length bs →

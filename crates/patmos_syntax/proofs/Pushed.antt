@@ -1,7 +1,7 @@
 -- Statements that are pushed one by one.
 use Rattle.std.proofs.Common.{◌≡◌, refl, ℕ, false, List, [], ◌∷◌, ◌++◌, length, ap, append_assoc, Some, None}
 use Rattle.patmos_syntax.specs.declared.items.Item as code
-use Rattle.patmos_syntax.specs.Readers.{at_end}
+use Rattle.patmos_forms.specs.Readers.{at_end}
 use Rattle.patmos_syntax.specs.Items.{Item, label, label_at, statement_of, items_in}
 use Rattle.patmos_syntax.specs.Shown.{shown_item, shown_items}
 use Rattle.patmos_syntax.proofs.Labels.{label_first, no_label}

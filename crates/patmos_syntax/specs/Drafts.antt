@@ -6,17 +6,17 @@ use Rattle.patmos_instr.specs.Instructions.{is_long, is_second_kind}
 use Rattle.patmos_instr.specs.declared.guards.Guard.{Guard}
 use Rattle.patmos_instr.specs.declared.instructions.Instr.{Instr}
 use Rattle.patmos_instr.specs.declared.instructions.Op.{Op}
-use Rattle.patmos_syntax.specs.declared.faults.AsmKind.{AsmKind}
-use Rattle.patmos_syntax.specs.declared.faults.AsmKind.TheVariants.{Mnemonic, Operand, Slot}
-use Rattle.patmos_syntax.specs.declared.forms.Flow.{Flow}
-use Rattle.patmos_syntax.specs.Faults.{◌>>=◌, least}
-use Rattle.patmos_syntax.specs.Readers.{word_at, is_name, sign_at, at_end}
-use Rattle.patmos_syntax.specs.Forms.{flow_of, form_of, op_in, guard_at, guard_of}
+use Rattle.patmos_forms.specs.declared.faults.AsmKind.{AsmKind}
+use Rattle.patmos_forms.specs.declared.faults.AsmKind.TheVariants.{Mnemonic, Operand, Slot}
+use Rattle.patmos_forms.specs.declared.forms.JumpKind.{JumpKind}
+use Rattle.patmos_forms.specs.Faults.{◌>>=◌, least}
+use Rattle.patmos_forms.specs.Readers.{word_at, is_name, sign_at, at_end}
+use Rattle.patmos_forms.specs.Forms.{flow_of, form_of, op_in, guard_at, guard_of}
 
 -- an operation, or a jump to what has this name
 pub data Draft : Type 0 where
   ready : Op → Draft
-  to : Flow → List ℕ → Draft
+  to : JumpKind → List ℕ → Draft
 
 pub record DraftInstr : Type 0 where
   pub guard : Guard
@@ -32,7 +32,7 @@ abbrev pub name_in : List ℕ → Option (List ℕ)
 name_in text = if is_name (word_at text).0 && at_end (word_at text).1 then Some (word_at text).0 else None
 
 -- what stands after a mnemonic
-abbrev pub jump_in : Flow → List ℕ → Result Draft AsmKind
+abbrev pub jump_in : JumpKind → List ℕ → Result Draft AsmKind
 jump_in flow text = ok_or (name_in text) Operand >>= λ name. Ok (to flow name)
 
 abbrev pub plain_in : List ℕ → List ℕ → Result Draft AsmKind
@@ -44,7 +44,7 @@ plain_in word text = do
 unfoldable pub draft_in : List ℕ → List ℕ → Result Draft AsmKind
 draft_in word text = by_mnemonic (flow_of word) word text
   where
-    by_mnemonic : Option Flow → List ℕ → List ℕ → Result Draft AsmKind
+    by_mnemonic : Option JumpKind → List ℕ → List ℕ → Result Draft AsmKind
     by_mnemonic (Some flow) word text = jump_in flow text
     by_mnemonic None word text = plain_in word text
 

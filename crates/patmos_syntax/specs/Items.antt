@@ -2,9 +2,9 @@
 -- bundles, and those that are faulty by themselves.
 use Rattle.std.specs.Prelude.{ℕ, zero, suc, if◌then◌else◌, List, [], ◌∷◌, ◌++◌, length, bytes_eq, codes, Option, Some, None, Result, Ok, Err}
 use Rattle.std.specs.Option.{option_map}
-use Rattle.patmos_syntax.specs.declared.faults.AsmKind.{AsmKind}
-use Rattle.patmos_syntax.specs.declared.faults.AsmKind.TheVariants.{Operand}
-use Rattle.patmos_syntax.specs.Readers.{word_at, is_name, sign_at, at_end}
+use Rattle.patmos_forms.specs.declared.faults.AsmKind.{AsmKind}
+use Rattle.patmos_forms.specs.declared.faults.AsmKind.TheVariants.{Operand}
+use Rattle.patmos_forms.specs.Readers.{word_at, is_name, sign_at, at_end}
 use Rattle.patmos_syntax.specs.Drafts.{DraftBundle, name_in, bundle_of}
 use Rattle.patmos_syntax.specs.Statements.{Piece, statements_of}
 

@@ -1,8 +1,3 @@
-pub mod Readers
-pub mod Faults
-pub mod Operands
-pub mod Forms
-pub mod Gives
 pub mod Beside
 pub mod Drafts
 pub mod Statements

@@ -3,7 +3,7 @@
 -- that stand before a byte on its line are listed from the nearest on.
 use Rattle.std.specs.Prelude.{ℕ, ◌+◌, Bool, true, false, not, ◌&&◌, ◌||◌, ◌==◌, if◌then◌else◌, List, [], ◌∷◌, ◌++◌}
 use Rattle.std.specs.List.{list_any}
-use Rattle.patmos_syntax.specs.Readers.{without_blanks}
+use Rattle.patmos_forms.specs.Readers.{without_blanks}
 
 -- a `#` stands before the byte
 abbrev pub in_comment : List ℕ → Bool

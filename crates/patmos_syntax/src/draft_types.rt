@@ -1,14 +1,14 @@
 ghost use Rattle.std.specs.Prelude.{IsTrue};
 ghost use Rattle.patmos_syntax.specs.Beside.{fits_beside};
 
-use crate::forms::Flow;
+use patmos_forms::JumpKind;
 use patmos_instr::{Bundle, Guard, Instr, Op};
 
 /// An operation, or a jump to what has this name.
 #[derive(Drop)]
 pub enum Draft {
     Ready { op: Op },
-    To { flow: Flow, name: Vec<u8> },
+    To { flow: JumpKind, name: Vec<u8> },
 }
 
 /// An instruction whose target may still be a name.
@@ -22,7 +22,7 @@ pub struct DraftInstr {
 #[derive(Drop)]
 pub struct Jump {
     pub guard: Guard,
-    pub flow: Flow,
+    pub flow: JumpKind,
     pub name: Vec<u8>,
     pub beside: Option<Instr>,
     ghost fits: { IsTrue (fits_beside beside) },

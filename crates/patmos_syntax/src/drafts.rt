@@ -1,16 +1,14 @@
 ghost use Rattle.std.specs.Prelude.{◌≡◌, ◌<◌, ◌≤◌, IfSome, IfOk, MatchResult, length, map, None, IsTrue};
-ghost use Rattle.patmos_syntax.specs.Readers.{is_name};
+ghost use Rattle.patmos_forms.specs.Readers.{is_name};
 ghost use Rattle.std.specs.Option.{option_map};
-ghost use Rattle.patmos_syntax.specs.Gives.{Gives};
+ghost use Rattle.patmos_forms.specs.Gives.{Gives};
 ghost use Rattle.patmos_syntax.specs.Shown.{shown_draft, shown_instr, shown_bundle};
 ghost use Rattle.patmos_syntax.specs.Drafts as specs;
 
 use crate::draft_types::{Draft, DraftBundle, DraftInstr, Jump};
-use crate::faults::{AsmKind, Refused};
-use crate::forms::{Flow, Form};
-use crate::operands::guard_at;
-use crate::ops::{guard_of, op_in};
-use crate::readers::{at_end, is_name, sign_at, word_at};
+use patmos_forms::{
+    AsmKind, Form, JumpKind, Refused, at_end, guard_at, guard_of, is_name, op_in, sign_at, word_at,
+};
 use patmos_instr::{Bundle, Instr};
 use std::alloc::{AllocError, Global};
 use tc_word::OutOfMemory;
@@ -48,7 +46,7 @@ pub fn name_in(text: &[u8]) -> Option<&[u8]>
 fn draft_in(alloc: Global, word: &[u8], text: &[u8]) -> Result<Draft, Refused>
     ensures { Gives shown_draft result (specs.draft_in word.now text.now) }
 {
-    if let Some(flow) = Flow::of_mnemonic(word) {
+    if let Some(flow) = JumpKind::of_mnemonic(word) {
         let name = name_in(text).ok_or(AsmKind::Operand)?;
         let name = Vec::from_slice(alloc, name)?;
         return Ok(Draft::To { flow, name });

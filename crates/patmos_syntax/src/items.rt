@@ -1,5 +1,5 @@
 ghost use Rattle.std.specs.Prelude.{◌≡◌, ◌+◌, ◌^◌, ◌<◌, ◌≤◌, ◌++◌, ◌∷◌, [], length, IsTrue, IfSome, IfOk, OnOk};
-ghost use Rattle.patmos_syntax.specs.Readers.{is_name};
+ghost use Rattle.patmos_forms.specs.Readers.{is_name};
 ghost use Rattle.std.specs.Option.{option_map};
 ghost use Rattle.patmos_syntax.specs.Shown.{shown_item, shown_items};
 ghost use Rattle.patmos_syntax.specs.Items.{line_of};
@@ -8,9 +8,8 @@ ghost use Rattle.patmos_syntax.specs.Drafts as drafts;
 
 use crate::draft_types::DraftBundle;
 use crate::drafts::{bundle_of, name_in};
-use crate::faults::{AsmKind, Refused};
-use crate::readers::{at_end, is_name, sign_at, word_at};
 use crate::statements::{Unread, next_statement};
+use patmos_forms::{AsmKind, Refused, at_end, is_name, sign_at, word_at};
 use std::alloc::{AllocError, Global};
 use tc_word::Text;
 
@@ -55,7 +54,7 @@ fn label_at(text: &[u8]) -> Option<(&[u8], &[u8])>
 }
 
 // the text of a name
-#[tactic(auto, using(crate::proofs::Ascii::name_is_text))]
+#[tactic(auto, using(patmos_forms::proofs::Ascii::name_is_text))]
 fn text_of(alloc: Global, name: &[u8]) -> Result<Text, AllocError>
     requires { IsTrue (is_name name.now) }
     ensures { IfOk result (λ text. text ≡ name.now) }

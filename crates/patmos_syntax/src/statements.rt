@@ -2,7 +2,7 @@ ghost use Rattle.std.specs.Prelude.{◌≡◌, [], ◌∷◌, ◌+◌, ◌-◌, 
 ghost use Rattle.patmos_syntax.specs.Statements as specs;
 ghost use Rattle.patmos_syntax.specs.Where as places;
 
-use crate::readers::without_blanks;
+use patmos_forms::without_blanks;
 
 /// Where a byte of a text stands.
 #[derive(Clone, Copy)]

@@ -18,7 +18,7 @@ use Rattle.patmos_step.specs.declared.plan.Plan.{Plan}
 use Rattle.patmos_step.specs.declared.plan.Plan.TheVariants.{Nothing, Waits, Does}
 use Rattle.patmos_step.specs.Plan.{planned, carried_out, IsSettled}
 use Rattle.patmos_step.specs.Shown.{Shows, core_of, plain_of}
-use Rattle.patmos_step.specs.Alone.{CanBegin, CanLand, IsAlone}
+use Rattle.patmos_alone.specs.Alone.{CanBegin, CanLand, IsAlone}
 use Rattle.patmos_step.proofs.Own.{own_is_planned, flowed_settled}
 use Rattle.core_pace.specs.Moment.{landed, done_in, fetched_in, passes}
 use Rattle.core_pace.proofs.OwnActs.{landed_running, landed_first, flow_stays, gone_runs, running_status}

@@ -1,6 +1,7 @@
 use crate::follow::has_few_words;
 use crate::latches::Latches;
 use crate::lone::Lone;
+use patmos_alone::{do_branch, do_silent, has_no_slot_left, next_offset};
 use patmos_instr::Guard;
 use patmos_step::Class;
 use slot_arbiter::MOST_CYCLES;
@@ -11,14 +12,14 @@ impl Lone {
     ghost use Rattle.std.specs.Prelude.{◌≡◌, ◌+◌, ◌<◌, true, false, IfSome};
     ghost use Rattle.patmos_sem.specs.declared.effects.Effect.TheVariants as effect;
     ghost use Rattle.patmos_model.specs.State.{Core, is_running, is_free};
-    ghost use Rattle.patmos_step.specs.Alone.{CanBegin, CanLand, IsPrivateIn};
-    ghost use Rattle.patmos_step.specs.AtOnce.{IsBranchIn};
+    ghost use Rattle.patmos_alone.specs.Alone.{CanBegin, CanLand, IsPrivateIn};
+    ghost use Rattle.patmos_alone.specs.AtOnce.{IsBranchIn};
     ghost use Rattle.patmos_step.specs.Shown.{plain_of};
     ghost use Rattle.pipe_five.specs.Lone.{RunsAs, IsNextBundle};
 
     /// Does the bundle that comes in the cycle, if it is one of these, and tells whether it did.
     #[inline(always)]
-    #[tactic(auto, using(patmos_step::proofs::AtOnce::silent_next, patmos_step::proofs::AtOnce::branch_next))]
+    #[tactic(auto, using(patmos_alone::proofs::AtOnce::silent_next, patmos_alone::proofs::AtOnce::branch_next))]
     pub fn do_at_once(&mut self, latches: &mut Latches) -> bool
         requires early { self.old.cycle < MOST_CYCLES }
         ensures runs { (x : Core) → RunsAs self.old x → RunsAs self.new x }
@@ -40,7 +41,7 @@ impl Lone {
                 self.do_silent(latches, offset, words);
                 true
             }
-            Class::Branch { guard, by } if self.body.has_no_slot_left() => {
+            Class::Branch { guard, by } if has_no_slot_left(&self.body) => {
                 self.do_branch(latches, offset, words, guard, by);
                 true
             }
@@ -59,7 +60,7 @@ impl Lone {
         if !self.can_begin() {
             return None;
         }
-        Some(self.body.next_offset()?)
+        Some(next_offset(&self.body)?)
     }
 
     // whether the next bundle comes in the cycle
@@ -85,7 +86,7 @@ impl Lone {
     {
         has_few_words(&self.body.image);
         latches.shift(self.body.base + offset, &self.body.regs);
-        self.body.do_silent(offset, words, self.cycle);
+        do_silent(&mut self.body, offset, words, self.cycle);
         self.cycle += 1;
     }
 
@@ -102,7 +103,7 @@ impl Lone {
     {
         has_few_words(&self.body.image);
         latches.shift(self.body.base + offset, &self.body.regs);
-        self.body.do_branch(offset, words, guard, by, self.cycle);
+        do_branch(&mut self.body, offset, words, guard, by, self.cycle);
         self.cycle += 1;
     }
 }

@@ -1,7 +1,7 @@
 -- To be believed. The commands, as the words of the command line after the program's name call them.
 use Rattle.std.specs.Prelude.{ℕ, ◌^◌, List, [], ◌∷◌, Option, None, Some, codes, bytes_eq, length, nat_le, nat_lt, if◌then◌else◌}
-use Rattle.patmos_syntax.specs.Readers.{value_of}
-use Rattle.patmos_syntax.specs.declared.readers.Radix.TheVariants.{Decimal}
+use Rattle.patmos_forms.specs.Readers.{value_of}
+use Rattle.patmos_forms.specs.declared.readers.Radix.TheVariants.{Decimal}
 use Rattle.tcrest.specs.declared.command.Command.{Command}
 use Rattle.tcrest.specs.declared.command.Command.TheVariants.{OfJob, Grid, Gen, Bench, Usage}
 use Rattle.tcrest.specs.declared.command.JobCommand.TheVariants.{Run, Bound, Asm, Mean, Pipe, Persist}

@@ -1,7 +1,7 @@
 ghost use Rattle.std.specs.Prelude.{◌≡◌};
 ghost use Rattle.tcrest.specs.Command as specs;
 
-use patmos_syntax::Radix;
+use patmos_forms::Radix;
 use tc_word::Text;
 
 /// How many digits the number of a generated job has at most.

@@ -1,5 +1,5 @@
 use Rattle.std.proofs.Common.{◌≡◌, ap, Some, None, false, rules}
-use Rattle.patmos_syntax.specs.Readers.{at_end}
+use Rattle.patmos_forms.specs.Readers.{at_end}
 use Rattle.patmos_syntax.specs.Items.{label_at, label}
 use Rattle.patmos_syntax.proofs.Pushed.{label_pushed, last_pushed}
 use Rattle.patmos_syntax.proofs.items.push_items.Goals as goal

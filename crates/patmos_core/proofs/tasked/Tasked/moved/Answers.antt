@@ -7,7 +7,7 @@ use Rattle.patmos_model.specs.State.{Core}
 use Rattle.patmos_model.specs.Transaction.{transaction}
 use Rattle.patmos_step.specs.Ready.{IsUpTo}
 use Rattle.patmos_step.specs.Shown.{IsActed, core_of}
-use Rattle.patmos_step.proofs.OwnWords.{own_moves}
+use Rattle.patmos_step.proofs.Moves.{own_moves}
 use Rattle.patmos_core.specs.Progress.{half_at, cycle_after, phase_after, IsMoving}
 use Rattle.patmos_core.proofs.Resumed.{there_acted, there_as}
 use Rattle.patmos_core.proofs.WordsMoving.{sends_none}

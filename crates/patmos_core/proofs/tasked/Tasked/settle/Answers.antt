@@ -9,11 +9,11 @@ returns-clause-goes_on c = record {
   stands = λ x made on.
       let at : IsAt c.settle.new.self (settled_at c.args.self.now.cycle (core_of c.args.self.now.body on.seen)) =
       c.settle.ensures.at on.seen on.shows in
-      on_moved c.args.self.now _ x made made c.settle.ensures.frame on at.seen at.shows
+      on_moved c.args.self.now _ x made made c.settle.ensures.keeps.frame on at.seen at.shows
       (there_settled c.args.self.now.body.place.cores c.args.self.now.body.place.core x made c.args.self.now.cycle
       c.args.self.now.phase
       (core_of c.args.self.now.body on.seen) (core_of c.settle.new.self at.seen) c.requires.act at.same
-      (ap (λ s. s.interface) c.settle.ensures.ni) on.there);
-  frame = c.settle.ensures.frame;
+      (ap (λ s. s.interface) c.settle.ensures.keeps.ni) on.there);
+  frame = c.settle.ensures.keeps.frame;
   phases = omega arith;
 }

@@ -1,6 +1,6 @@
 use Rattle.std.proofs.Common.{sym, ◌∙◌, subst, rules, w32, to_z-of_z}
-use Rattle.patmos_step.specs.AtOnce.{IsBranchIn}
-use Rattle.patmos_step.proofs.AtOnce.{branch_next}
+use Rattle.patmos_alone.specs.AtOnce.{IsBranchIn}
+use Rattle.patmos_alone.proofs.AtOnce.{branch_next}
 use Rattle.pipe_five.proofs.lone.Lone.do_at_once.Goals as goal
 
 pub do_branch-requires-clause-next : goal.do_branch-requires-clause-next

@@ -1,0 +1,6 @@
+pub mod ByItself
+pub mod AtOnce
+pub mod OwnWords
+pub mod Stretches
+pub mod Sleeping
+pub mod Waits

@@ -1,0 +1,5 @@
+pub mod Readers
+pub mod Faults
+pub mod Operands
+pub mod Forms
+pub mod Gives
