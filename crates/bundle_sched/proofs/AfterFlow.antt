@@ -2,7 +2,7 @@
 use Rattle.std.proofs.Common.{◌≡◌, ℕ, Bool, true, false, not, true≢false, if◌then◌else◌, Option, Some, None, List, [], ◌∷◌, ◌++◌, refl, sym, ap, ◌∙◌}
 use Rattle.std.specs.Prelude.{◌&&◌, ◌||◌, is_none}
 use Rattle.std.proofs.lemmas.Bool.{and_parts, not-true}
-use Rattle.patmos_instr.specs.Bundles.{Slots}
+use Rattle.patmos_instr.specs.Bundles.{PlainBundle}
 use Rattle.patmos_instr.specs.declared.guards.Guard.{Guard}
 use Rattle.patmos_instr.specs.declared.instructions.Instr.{Instr}
 use Rattle.patmos_instr.specs.declared.instructions.Op.{Op}
@@ -71,7 +71,8 @@ flow_late from x m h = so x.op h
     so Return h = asked_late from (flow_kind.Return m.regs.srb m.regs.sro) (holds m.regs x.guard) m
     so _ h = absurd (true≢false (sym h))
 
-flow_once : (from : Sources) (t : Slots) (m : Run) → IsWhole m → is_flow t.first.op ≡ true → is_none t.second ≡ true
+flow_once : (from : Sources) (t : PlainBundle) (m : Run) → IsWhole m → is_flow t.first.op ≡ true
+    → is_none t.second ≡ true
     → once from t m ≡ with_asked (holds m.regs t.first.guard) t.first.op m
 flow_once from t m whole flow lone =
     sym (early_once from t m whole (flow_early t.first.op flow))
@@ -122,13 +123,14 @@ or_false true y h = absurd (true≢false h)
 or_false false y h = (refl, h)
 
 -- the registers after a bundle
-regs_once : (from : Sources) (b : Slots) (m : Run) → IsWhole m → is_late b.first.op ≡ false
+regs_once : (from : Sources) (b : PlainBundle) (m : Run) → IsWhole m → is_late b.first.op ≡ false
     → (once from b m).regs ≡ three (slot_write m.st m.ss m.regs b.first) (second_write m.st m.ss m.regs b.second)
     write.Nothing m.regs
 regs_once from b m whole early = ap (λ t. t.regs) (early_told from b m whole early)
 
 -- the place that a return goes to stays
-back_kept : (from : Sources) (b : Slots) (m : Run) → IsWhole m → is_late b.first.op ≡ false → holds_special b ≡ false
+back_kept : (from : Sources) (b : PlainBundle) (m : Run) → IsWhole m → is_late b.first.op ≡ false
+    → holds_special b ≡ false
     → ((once from b m).regs.srb ≡ m.regs.srb) × ((once from b m).regs.sro ≡ m.regs.sro)
 back_kept from b m whole early none =
     let special_none = or_false (is_special b.first.op)
@@ -149,7 +151,7 @@ way_same Return regs next base offset = λ k. returns (base k) (offset k)
 way_same _ regs next base offset = refl
 
 -- a guard that the bundle spares holds as before
-guard_kept : (from : Sources) (b : Slots) (g : Guard) (m : Run) → IsWhole m → is_late b.first.op ≡ false
+guard_kept : (from : Sources) (b : PlainBundle) (g : Guard) (m : Run) → IsWhole m → is_late b.first.op ≡ false
     → spares_guard b g ≡ true → holds (once from b m).regs g ≡ holds m.regs g
 guard_kept from b g m whole early h = so (is_always g) refl h
   where
@@ -173,7 +175,7 @@ guard_kept from b g m whole early h = so (is_always g) refl h
         ∙ second_spared b.second m.st m.ss m.regs g.pred x both.1) in
         ap (λ p. if g.negated then not p else p) (ap (λ r. pred_in r g.pred) (regs_once from b m whole early) ∙ kept)
 
-module _ (from : Sources) (b : Slots) (h : can_move b ≡ true) where
+module _ (from : Sources) (b : PlainBundle) (h : can_move b ≡ true) where
   can_early : is_late b.first.op ≡ false
   can_early = not-true (is_late b.first.op) (and_parts (not (is_late b.first.op))
       (not (is_flow b.first.op) && not (holds_special b)) h).0
@@ -201,7 +203,7 @@ module _ (from : Sources) (b : Slots) (h : can_move b ≡ true) where
       (m.ways ++ way_asked op m.regs ∷ []) can_early can_calm)
       ∙ (λ k. with_ways (once from b m) (sym (moved_ways m) k ++ sym same k ∷ []))
 
-  pub moved_once : (t : Slots) (m : Run) → IsWhole m → lets_pass t b ≡ true → once from b (once from t m)
+  pub moved_once : (t : PlainBundle) (m : Run) → IsWhole m → lets_pass t b ≡ true → once from b (once from t m)
       ≡ once from t (once from b m)
   moved_once t m whole pass =
       let one = and_parts (is_flow t.first.op) (is_none t.second && spares_guard b t.first.guard) pass in

@@ -2,7 +2,7 @@
 use Rattle.std.proofs.Common.{◌≡◌, ℕ, zero, suc, ◌==◌, true, false, true≢false, if◌then◌else◌, List, [], ◌∷◌, ◌++◌, length, map, slice_index_or, refl, sym, ap, ◌∙◌, subst, append_assoc, append-nil}
 use Rattle.std.proofs.lemmas.Bool.{and_parts}
 use Rattle.std.proofs.lemmas.List.{length-map}
-use Rattle.patmos_instr.specs.Bundles.{Slots}
+use Rattle.patmos_instr.specs.Bundles.{PlainBundle}
 use Rattle.sp_shape.specs.Bundles.{is_idle}
 use Rattle.sp_shape.specs.Formed.{is_branch}
 use Rattle.sp_shape.specs.Parts.{PlainPart, straight, repeats, calls_to, leaves, PlainParts, no_part, part, PlainShape}
@@ -46,7 +46,7 @@ alike_is from xs ys is = record { runs = λ m whole. ap (λ zs. run from zs m) i
 pub alike_begun : {from : Sources} {xs ys : List Step} → Alike from xs ys → Alike from (begins ∷ xs) (begins ∷ ys)
 alike_begun a = record { runs = λ m whole. a.runs (begun m) (begun_whole m whole) }
 
-pub alike_done : {from : Sources} (b : Slots) {xs ys : List Step} → Alike from xs ys
+pub alike_done : {from : Sources} (b : PlainBundle) {xs ys : List Step} → Alike from xs ys
     → Alike from (does b ∷ xs) (does b ∷ ys)
 alike_done {from} b a = record { runs = λ m whole. a.runs (once from b m) (once_whole from b m whole) }
 
@@ -57,17 +57,17 @@ alike_copies a (suc n) = alike_then a (alike_copies a n)
 
 -- ---- bundles
 
-left_out : (from : Sources) (b : Slots) (bs : List Step) → is_idle b ≡ true → Alike from bs (does b ∷ bs)
+left_out : (from : Sources) (b : PlainBundle) (bs : List Step) → is_idle b ≡ true → Alike from bs (does b ∷ bs)
 left_out from b bs is = record {
   runs = λ m whole. ap (run from bs) (sym (ap (λ x. once from x m) (idle_is b is)
       ∙ idle_once from m whole));
 }
 
-in_one : (from : Sources) (a b : Slots) (bs : List Step) → can_join a b ≡ true
+in_one : (from : Sources) (a b : PlainBundle) (bs : List Step) → can_join a b ≡ true
     → Alike from (does (pair a b) ∷ bs) (does a ∷ does b ∷ bs)
 in_one from a b bs can = record { runs = λ m whole. ap (run from bs) (join_once from a b m whole can) }
 
-changed : (from : Sources) (b x : Slots) (bs : List Step) → goes_by b x ≡ true
+changed : (from : Sources) (b x : PlainBundle) (bs : List Step) → goes_by b x ≡ true
     → Alike from (does x ∷ does b ∷ bs) (does b ∷ does x ∷ bs)
 changed from b x bs by = record { runs = λ m whole. ap (run from bs) (sym (swap_once from b x m whole by)) }
 
@@ -82,28 +82,28 @@ alike_steps from = record {
   swapped = λ b x bs by. changed from b x (all_done bs) by;
 }
 
-pub packed_alike : (from : Sources) (bs : List Slots) → Alike from (all_done (packed bs)) (all_done bs)
+pub packed_alike : (from : Sources) (bs : List PlainBundle) → Alike from (all_done (packed bs)) (all_done bs)
 packed_alike from bs = packed_steps (λ xs ys. Alike from (all_done ys) (all_done xs)) (alike_steps from) bs
 
-arranged_alike : (from : Sources) (held front back : List Slots)
+arranged_alike : (from : Sources) (held front back : List PlainBundle)
     → Alike from (all_done (packed (arranged held front back))) (all_done (held ++ front))
 arranged_alike from held front back =
     arranged_steps (λ xs ys. Alike from (all_done ys) (all_done xs)) (alike_steps from) held front back
 
 -- ---- a bundle in a delay slot
 
-pub in_front : (b : Slots) (bs xs : List Slots) → but_last b bs ++ (last_or b bs ∷ xs) ≡ b ∷ (bs ++ xs)
+pub in_front : (b : PlainBundle) (bs xs : List PlainBundle) → but_last b bs ++ (last_or b bs ∷ xs) ≡ b ∷ (bs ++ xs)
 in_front b [] xs = refl
 in_front b (c ∷ cs) xs = ap (λ ys. b ∷ ys) (in_front c cs xs)
 
 -- a last bundle that does nothing, left out
-pub last_left : (from : Sources) (b : Slots) (bs : List Slots) → is_idle (last_or b bs) ≡ true
+pub last_left : (from : Sources) (b : PlainBundle) (bs : List PlainBundle) → is_idle (last_or b bs) ≡ true
     → Alike from (all_done (but_last b bs)) (all_done (b ∷ bs))
 last_left from b [] is = left_out from b [] is
 last_left from b (c ∷ cs) is = alike_done b (last_left from c cs is)
 
 -- the flow after a bundle, and the bundle in its first slot
-slot_filled : (from : Sources) (b : Slots) (tail : List Slots) → can_move b ≡ true → has_room b tail ≡ true
+slot_filled : (from : Sources) (b : PlainBundle) (tail : List PlainBundle) → can_move b ≡ true → has_room b tail ≡ true
     → Alike from (all_done (filled b tail)) (all_done (b ∷ tail))
 slot_filled from b [] can room = absurd (true≢false (sym room))
 slot_filled from b (t ∷ []) can room = absurd (true≢false (sym room))
@@ -115,7 +115,7 @@ slot_filled from b (t ∷ slot ∷ slots) can room =
     })
     (alike_done b (alike_done t (last_left from slot slots both.1)))
 
-one_alike : (from : Sources) (bs tail : List Slots) → Alike from (all_done (kept_by_one bs tail)
+one_alike : (from : Sources) (bs tail : List PlainBundle) → Alike from (all_done (kept_by_one bs tail)
     ++ all_done (way_by_one bs tail)) (all_done bs ++ all_done tail)
 one_alike from [] tail = alike_same from (all_done tail)
 one_alike from (b ∷ bs) tail =
@@ -133,14 +133,14 @@ one_alike from (b ∷ bs) tail =
       | false ↦ λ is. alike_same from (all_done (b ∷ bs) ++ all_done tail)
     ] refl
 
-way_alike : (from : Sources) (n : ℕ) (bs tail : List Slots) → Alike from (all_done (kept_after n bs tail)
+way_alike : (from : Sources) (n : ℕ) (bs tail : List PlainBundle) → Alike from (all_done (kept_after n bs tail)
     ++ all_done (way_after n bs tail)) (all_done bs ++ all_done tail)
 way_alike from zero bs tail = alike_same from (all_done bs ++ all_done tail)
 way_alike from (suc n) bs tail =
     alike_on (way_alike from n (kept_by_one bs tail) (way_by_one bs tail)) (one_alike from bs tail)
 
 -- a tail with its flow alone
-freed_alike : (from : Sources) (tail : List Slots) → Alike from (all_done (freed tail)) (all_done tail)
+freed_alike : (from : Sources) (tail : List PlainBundle) → Alike from (all_done (freed tail)) (all_done tail)
 freed_alike from tail =
     freed_as (λ xs tail. Alike from (all_done xs) (all_done tail)) (λ tail. alike_same from (all_done tail))
     (λ flow slot slots i out.
@@ -151,14 +151,14 @@ freed_alike from tail =
     })) tail
 
 -- bundles in all delay slots
-pub slots_alike : (from : Sources) (bs tail : List Slots) → Alike from (all_done (kept bs tail)
+pub slots_alike : (from : Sources) (bs tail : List PlainBundle) → Alike from (all_done (kept bs tail)
     ++ all_done (way bs tail)) (all_done bs ++ all_done tail)
 slots_alike from bs tail = alike_on (way_alike from MOST_SLOTS bs (freed tail))
     (alike_then (alike_same from (all_done bs)) (freed_alike from tail))
 
 -- ---- tails of loops
 
-pub tail_split : (tail : List Slots) → before_branch tail ++ from_branch tail ≡ tail
+pub tail_split : (tail : List PlainBundle) → before_branch tail ++ from_branch tail ≡ tail
 tail_split [] = refl
 tail_split (b ∷ bs) =
     elim (is_branch b.first.op) as (λ back. (if back then [] else b ∷ before_branch bs)
@@ -168,7 +168,8 @@ tail_split (b ∷ bs) =
           (tail_split bs)
     ]
 
-pub iteration_alike : (from : Sources) (held tail : List Slots) → Alike from (all_done (iteration_packed held tail))
+pub iteration_alike : (from : Sources) (held tail : List PlainBundle)
+    → Alike from (all_done (iteration_packed held tail))
     (all_done held ++ all_done tail)
 iteration_alike from held tail =
     let front = before_branch tail in
@@ -184,7 +185,8 @@ iteration_alike from held tail =
     ∙ ap (λ xs. all_done held ++ xs) (sym (done_append front back) ∙ ap all_done (tail_split tail))))))
 
 -- an iteration, of whose body some straight code comes with the tail
-pub body_alike : (from : Sources) (xs us : List Step) (left tail : List Slots) → Alike from (xs ++ all_done left) us
+pub body_alike : (from : Sources) (xs us : List Step) (left tail : List PlainBundle)
+    → Alike from (xs ++ all_done left) us
     → Alike from (xs ++ all_done (iteration_packed left tail)) (us ++ all_done tail)
 body_alike from xs us left tail a =
     alike_on (alike_then (alike_same from xs) (iteration_alike from left tail))
@@ -193,19 +195,20 @@ body_alike from xs us left tail a =
 
 -- ---- parts, over trails of functions that leave the same
 
-pub straights_trail : (f : ℕ → List Step) (bs : List Slots) (rest : PlainParts) → parts_trail f (straights bs rest)
+pub straights_trail : (f : ℕ → List Step) (bs : List PlainBundle) (rest : PlainParts)
+    → parts_trail f (straights bs rest)
     ≡ all_done bs ++ parts_trail f rest
 straights_trail f [] rest = refl
 straights_trail f (b ∷ bs) rest = refl
 
 module _ (from : Sources) (f g : ℕ → List Step) (each : (k : ℕ) → Alike from (g k) (f k)) where
   -- straight code and a part after it
-  pub leave_front : (held tail : List Slots) → Alike from (all_done (kept (packed held) tail)
+  pub leave_front : (held tail : List PlainBundle) → Alike from (all_done (kept (packed held) tail)
       ++ all_done (way (packed held) tail)) (all_done held ++ all_done tail)
   leave_front held tail = alike_on (slots_alike from (packed held) tail) (alike_then (packed_alike from held)
       (alike_same from (all_done tail)))
 
-  pub way_front : (held tail : List Slots) (xs us : List Step) → Alike from xs us
+  pub way_front : (held tail : List PlainBundle) (xs us : List Step) → Alike from xs us
       → Alike from (all_done (kept (packed held) tail) ++ (all_done (way (packed held) tail) ++ xs)) (all_done held
       ++ (all_done tail ++ us))
   way_front held tail xs us a =
@@ -216,11 +219,12 @@ module _ (from : Sources) (f g : ℕ → List Step) (each : (k : ℕ) → Alike 
       (alike_on (alike_then (leave_front held tail) a) (alike_is from ((all_done held ++ all_done tail) ++ us)
       (all_done held ++ (all_done tail ++ us)) (append_assoc (all_done held) (all_done tail) us)))
 
-  pub call_front : (held : List Slots) (k : ℕ) (tail : List Slots) → Alike from (all_done (kept (packed held) tail)
+  pub call_front : (held : List PlainBundle) (k : ℕ) (tail : List PlainBundle)
+      → Alike from (all_done (kept (packed held) tail)
       ++ (all_done (way (packed held) tail) ++ begins ∷ g k)) (all_done held ++ (all_done tail ++ begins ∷ f k))
   call_front held k tail = way_front held tail (begins ∷ g k) (begins ∷ f k) (alike_begun (each k))
 
-  pub repeat_front : (held : List Slots) (count : ℕ) (body : PlainParts) (tail : List Slots)
+  pub repeat_front : (held : List PlainBundle) (count : ℕ) (body : PlainParts) (tail : List PlainBundle)
       → Alike from (parts_trail g (parts_merged [] body) ++ all_done (left_over [] body)) (parts_trail f body)
       → Alike from (all_done (packed held) ++ copies count (parts_trail g (parts_merged [] body)
       ++ all_done (iteration_packed (left_over [] body) tail))) (all_done held ++ copies count (parts_trail f body
@@ -230,7 +234,7 @@ module _ (from : Sources) (f g : ℕ → List Step) (each : (k : ℕ) → Alike 
       (parts_trail f body) (left_over [] body) tail a) count)
 
   -- and what comes after them
-  then_left : (bs held left : List Slots) (q p : PlainPart) (ms rest : PlainParts)
+  then_left : (bs held left : List PlainBundle) (q p : PlainPart) (ms rest : PlainParts)
       → Alike from (all_done bs ++ part_trail g q) (all_done held ++ part_trail f p)
       → Alike from (parts_trail g ms ++ all_done left) (parts_trail f rest)
       → Alike from (parts_trail g (straights bs (part q ms)) ++ all_done left) (all_done held
@@ -246,7 +250,7 @@ module _ (from : Sources) (f g : ℕ → List Step) (each : (k : ℕ) → Alike 
       ++ (part_trail f p ++ parts_trail f rest)) (append_assoc (all_done held) (part_trail f p)
       (parts_trail f rest))))
 
-  pub merged_alike : (held : List Slots) (ps : PlainParts) → Alike from (parts_trail g (parts_merged held ps)
+  pub merged_alike : (held : List PlainBundle) (ps : PlainParts) → Alike from (parts_trail g (parts_merged held ps)
       ++ all_done (left_over held ps)) (all_done held ++ parts_trail f ps)
   merged_alike held no_part = alike_is from (all_done held) (all_done held ++ []) (sym (append-nil (all_done held)))
   merged_alike held (part (straight bs) rest) =

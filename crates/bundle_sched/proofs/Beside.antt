@@ -5,7 +5,7 @@ use Rattle.std.proofs.Common.{◌≡◌, ℕ, zero, suc, ◌==◌, true, true≢
 use Rattle.std.specs.Prelude.{◌&&◌, ◌||◌}
 use Rattle.std.specs.List.{list_all}
 use Rattle.std.proofs.lemmas.Bool.{and_parts}
-use Rattle.patmos_instr.specs.Bundles.{Slots}
+use Rattle.patmos_instr.specs.Bundles.{PlainBundle}
 use Rattle.patmos_instr.specs.Instructions.{is_long}
 use Rattle.patmos_instr.specs.declared.instructions.Instr.{Instr}
 use Rattle.patmos_instr.specs.declared.instructions.Op.{Op}
@@ -71,7 +71,8 @@ nop_once from x m whole =
     ∙ ap (with_regs out) (zero_between v u (alu_value (alu_of imm.Add) (word_in m.regs 0) 0) m.regs)
     ∙ sym (once_told from (lone x) m whole)
 
-pub without_nop_once : (from : Sources) (b : Slots) (m : Run) → IsWhole m → once from (without_nop b) m ≡ once from b m
+pub without_nop_once : (from : Sources) (b : PlainBundle) (m : Run) → IsWhole m → once from (without_nop b) m
+    ≡ once from b m
 without_nop_once from b m whole =
     without_nop_as (λ c b. once from c m ≡ once from b m) (λ b. refl)
     (λ b i is nop. sym (nop_once from b.first m whole) ∙ (λ k. once from (both_of b.first (sym (nop_is i nop) k)) m)
@@ -108,7 +109,7 @@ flow_free f i h = so f.op h
     so _ h = absurd (true≢false (sym h))
 
 -- it may as well come after it
-pub beside_once : (from : Sources) (flow last : Slots) (i : Instr) (m : Run) → IsWhole m → Leaving flow i last
+pub beside_once : (from : Sources) (flow last : PlainBundle) (i : Instr) (m : Run) → IsWhole m → Leaving flow i last
     → once from (lone i) (once from (lone flow.first) m) ≡ once from flow m
 beside_once from flow last i m whole out =
     sym (joined_once from flow.first i m whole (ap (λ second. second || is_long i.op) out.kind)

@@ -2,7 +2,7 @@
 use Rattle.std.proofs.Common.{◌≡◌, ℕ, zero, suc, ◌==◌, Bool, true, false, not, true≢false, if◌then◌else◌, Option, Some, None, refl, sym, ap, ◌∙◌, arith, ne_eqb}
 use Rattle.std.specs.Prelude.{◌&&◌, is_none}
 use Rattle.std.proofs.lemmas.Bool.{and_parts, not-true}
-use Rattle.patmos_instr.specs.Bundles.{Slots}
+use Rattle.patmos_instr.specs.Bundles.{PlainBundle}
 use Rattle.patmos_instr.specs.declared.guards.Guard.{Guard}
 use Rattle.patmos_instr.specs.declared.instructions.Instr.{Instr}
 use Rattle.patmos_instr.specs.declared.instructions.Op.{Op}
@@ -36,7 +36,7 @@ idle_once from m whole =
 
 -- ---- two in one
 
-abbrev pub both_of : Instr → Instr → Slots
+abbrev pub both_of : Instr → Instr → PlainBundle
 both_of x y = record { first = x; second = Some y }
 
 -- a plain instruction asks for nothing, and its value does not come late
@@ -56,7 +56,7 @@ plain_asked true (CmpImm func pd ra imm) regs plain = refl
 plain_asked true (Comb func pd a b) regs plain = refl
 plain_asked true _ regs plain = absurd (true≢false (sym plain))
 
-pub plain_once : (from : Sources) (b : Slots) (m : Run) → IsWhole m → is_plain_op b.first.op ≡ true
+pub plain_once : (from : Sources) (b : PlainBundle) (m : Run) → IsWhole m → is_plain_op b.first.op ≡ true
     → once from b m ≡ with_regs m (three (slot_write m.st m.ss m.regs b.first) (second_write m.st m.ss m.regs b.second)
     write.Nothing m.regs)
 plain_once from b m whole plain =
@@ -69,7 +69,7 @@ plain_once from b m whole plain =
 pub two_writes : (v w : Write) (regs : Registers) → after_one w (after_one v regs) ≡ three v w write.Nothing regs
 two_writes v w regs = ap (λ r. with_pending r pending.Nothing) (after_writes-append (alone v) (alone w) regs)
 
-pub no_second : (b : Slots) → is_none b.second ≡ true → b ≡ lone b.first
+pub no_second : (b : PlainBundle) → is_none b.second ≡ true → b ≡ lone b.first
 no_second b none = so b.second none
   where
     so : (o : Option Instr) → is_none o ≡ true → record { first = b.first; second = o } ≡ lone b.first
@@ -99,7 +99,7 @@ idle_op_is (AluImm imm.Add rd ra n) h =
     λ k. AluImm imm.Add (p k) (q k) (r k)
 idle_op_is _ h = absurd (true≢false (sym h))
 
-pub idle_is : (b : Slots) → is_idle b ≡ true → b ≡ idle
+pub idle_is : (b : PlainBundle) → is_idle b ≡ true → b ≡ idle
 idle_is b h =
     let one = and_parts (is_always b.first.guard) (is_idle_op b.first.op && is_none b.second) h in
     let two = and_parts (is_idle_op b.first.op) (is_none b.second) one.1 in

@@ -7,7 +7,7 @@ use Rattle.std.specs.Prelude.{◌&&◌, ◌||◌, is_none, slice_set}
 use Rattle.std.specs.List.{list_all}
 use Rattle.std.proofs.lemmas.Bool.{and_parts}
 use Rattle.std.proofs.lemmas.List.{length-reverse, reverse-reverse}
-use Rattle.patmos_instr.specs.Bundles.{Slots}
+use Rattle.patmos_instr.specs.Bundles.{PlainBundle}
 use Rattle.patmos_instr.specs.declared.instructions.Instr.{Instr}
 use Rattle.sp_shape.specs.Bundles.{is_idle_op, is_idle}
 use Rattle.sp_shape.specs.Formed.{is_always}
@@ -19,45 +19,47 @@ use Rattle.bundle_sched.specs.Packing.{paired, in_pairs, packed, comes_first, ar
 use Rattle.bundle_sched.specs.declared.ordering.TheConstants.{WINDOW}
 use Rattle.bundle_sched.proofs.TwoInOne.{pair_idle}
 
-pub record AtEachStep (P : List Slots → List Slots → Type 0) : Type 0 where
-  pub same : (bs : List Slots) → P bs bs
-  pub through : (xs ys zs : List Slots) → P xs ys → P ys zs → P xs zs
-  pub behind : (b : Slots) (xs ys : List Slots) → P xs ys → P (b ∷ xs) (b ∷ ys)
-  pub left_out : (b : Slots) (bs : List Slots) → is_idle b ≡ true → P (b ∷ bs) bs
-  pub emptied : (b : Slots) (bs : List Slots) → P (b ∷ bs) (without_nop b ∷ bs)
-  pub joined : (a b : Slots) (bs : List Slots) → is_idle b ≡ false → can_join a b ≡ true
+pub record AtEachStep (P : List PlainBundle → List PlainBundle → Type 0) : Type 0 where
+  pub same : (bs : List PlainBundle) → P bs bs
+  pub through : (xs ys zs : List PlainBundle) → P xs ys → P ys zs → P xs zs
+  pub behind : (b : PlainBundle) (xs ys : List PlainBundle) → P xs ys → P (b ∷ xs) (b ∷ ys)
+  pub left_out : (b : PlainBundle) (bs : List PlainBundle) → is_idle b ≡ true → P (b ∷ bs) bs
+  pub emptied : (b : PlainBundle) (bs : List PlainBundle) → P (b ∷ bs) (without_nop b ∷ bs)
+  pub joined : (a b : PlainBundle) (bs : List PlainBundle) → is_idle b ≡ false → can_join a b ≡ true
       → P (a ∷ b ∷ bs) (pair a b ∷ bs)
-  pub swapped : (b x : Slots) (bs : List Slots) → goes_by b x ≡ true → P (b ∷ x ∷ bs) (x ∷ b ∷ bs)
+  pub swapped : (b x : PlainBundle) (bs : List PlainBundle) → goes_by b x ≡ true → P (b ∷ x ∷ bs) (x ∷ b ∷ bs)
 
 -- ---- another bundle at a number
 
-at_number : (front rest : List Slots) (b y : Slots) → slice_set (front ++ b ∷ rest) (length front) y ≡ front ++ y ∷ rest
+at_number : (front rest : List PlainBundle) (b y : PlainBundle) → slice_set (front ++ b ∷ rest) (length front) y
+    ≡ front ++ y ∷ rest
 at_number [] rest b y = refl
 at_number (c ∷ cs) rest b y = ap (λ ys. c ∷ ys) (at_number cs rest b y)
 
-set_back : (others rest : List Slots) (b y : Slots) → slice_set (reverse_aux others (b ∷ rest)) (length others) y
+set_back : (others rest : List PlainBundle) (b y : PlainBundle) → slice_set (reverse_aux others (b ∷ rest))
+    (length others) y
     ≡ reverse_aux others (y ∷ rest)
 set_back others rest b y =
     ap (λ xs. slice_set xs (length others) y) (reverse_aux-eq others (b ∷ rest))
     ∙ ap (λ n. slice_set (reverse others ++ b ∷ rest) n y) (sym (length-reverse others))
     ∙ at_number (reverse others) rest b y ∙ sym (reverse_aux-eq others (y ∷ rest))
 
-twice : (bs ys : List Slots) → reverse_aux (reverse bs) ys ≡ bs ++ ys
+twice : (bs ys : List PlainBundle) → reverse_aux (reverse bs) ys ≡ bs ++ ys
 twice bs ys = reverse_aux-eq (reverse bs) ys ∙ ap (λ xs. xs ++ ys) (reverse-reverse bs)
 
 -- ---- without what does nothing
 
-abbrev pub cleaned : List Slots → List Slots
+abbrev pub cleaned : List PlainBundle → List PlainBundle
 cleaned [] = []
 cleaned (b ∷ bs) = if is_idle b then cleaned bs else b ∷ cleaned bs
 
-cleaned_busy : (b : Slots) (bs : List Slots) → is_idle b ≡ false → cleaned (b ∷ bs) ≡ b ∷ cleaned bs
+cleaned_busy : (b : PlainBundle) (bs : List PlainBundle) → is_idle b ≡ false → cleaned (b ∷ bs) ≡ b ∷ cleaned bs
 cleaned_busy b bs busy = ap (λ idles. if idles then cleaned bs else b ∷ cleaned bs) busy
 
-cleaned_idle : (b : Slots) (bs : List Slots) → is_idle b ≡ true → cleaned (b ∷ bs) ≡ cleaned bs
+cleaned_idle : (b : PlainBundle) (bs : List PlainBundle) → is_idle b ≡ true → cleaned (b ∷ bs) ≡ cleaned bs
 cleaned_idle b bs is = ap (λ idles. if idles then cleaned bs else b ∷ cleaned bs) is
 
-cleaned_append : (xs ys : List Slots) → cleaned (xs ++ ys) ≡ cleaned xs ++ cleaned ys
+cleaned_append : (xs ys : List PlainBundle) → cleaned (xs ++ ys) ≡ cleaned xs ++ cleaned ys
 cleaned_append [] ys = refl
 cleaned_append (x ∷ xs) ys =
     elim (is_idle x) as (λ idles. (if idles then cleaned (xs ++ ys) else x ∷ cleaned (xs ++ ys))
@@ -66,7 +68,7 @@ cleaned_append (x ∷ xs) ys =
       | false ↦ ap (λ zs. x ∷ zs) (cleaned_append xs ys)
     ]
 
-paired_cleaned : (a : Slots) (bs : List Slots) → paired a (cleaned bs) ≡ paired a bs
+paired_cleaned : (a : PlainBundle) (bs : List PlainBundle) → paired a (cleaned bs) ≡ paired a bs
 paired_cleaned a [] = refl
 paired_cleaned a (b ∷ bs) =
     elim (is_idle b) as (λ idles. is_idle b ≡ idles → paired a (if idles then cleaned bs else b ∷ cleaned bs)
@@ -78,7 +80,7 @@ paired_cleaned a (b ∷ bs) =
           ∙ (λ k. if can_pair a b then paired_cleaned (pair a b) bs k else a ∷ paired_cleaned b bs k)
     ] refl
 
-pub pairs_cleaned : (bs : List Slots) → in_pairs (cleaned bs) ≡ in_pairs bs
+pub pairs_cleaned : (bs : List PlainBundle) → in_pairs (cleaned bs) ≡ in_pairs bs
 pairs_cleaned [] = refl
 pairs_cleaned (b ∷ bs) =
     elim (is_idle b) as (λ idles. is_idle b ≡ idles → in_pairs (if idles then cleaned bs else b ∷ cleaned bs)
@@ -89,11 +91,11 @@ pairs_cleaned (b ∷ bs) =
     ] refl
 
 -- what does nothing has no second instruction that does nothing
-idle_whole : (b : Slots) → is_idle b ≡ true → without_nop b ≡ b
+idle_whole : (b : PlainBundle) → is_idle b ≡ true → without_nop b ≡ b
 idle_whole b is = so b.second refl (and_parts (is_idle_op b.first.op) (is_none b.second)
     (and_parts (is_always b.first.guard) (is_idle_op b.first.op && is_none b.second) is).1).1
   where
-    so : (o : Option Instr) → b.second ≡ o → is_none o ≡ true → elim o as (λ _. Slots) [
+    so : (o : Option Instr) → b.second ≡ o → is_none o ≡ true → elim o as (λ _. PlainBundle) [
       | None ↦ b
       | Some i ↦
           if is_nop i then lone b.first else b
@@ -101,7 +103,7 @@ idle_whole b is = so b.second refl (and_parts (is_idle_op b.first.op) (is_none b
     so None is h = refl
     so (Some i) is h = absurd (true≢false (sym h))
 
-ordered_cleaned : (done bs : List Slots) → ordered_after done (cleaned bs) ≡ ordered_after done bs
+ordered_cleaned : (done bs : List PlainBundle) → ordered_after done (cleaned bs) ≡ ordered_after done bs
 ordered_cleaned done [] = refl
 ordered_cleaned done (b ∷ bs) =
     elim (is_idle b) as (λ idles. is_idle b ≡ idles → ordered_after done (if idles then cleaned bs else b ∷ cleaned bs)
@@ -112,13 +114,13 @@ ordered_cleaned done (b ∷ bs) =
       | false ↦ λ busy. ordered_cleaned (put_unless_idle (without_nop b) done) bs
     ] refl
 
-packed_cleaned : (bs : List Slots) → packed (cleaned bs) ≡ packed bs
+packed_cleaned : (bs : List PlainBundle) → packed (cleaned bs) ≡ packed bs
 packed_cleaned bs = ap in_pairs (ordered_cleaned [] bs)
 
-module _ (P : List Slots → List Slots → Type 0) (step : AtEachStep P) where
+module _ (P : List PlainBundle → List PlainBundle → Type 0) (step : AtEachStep P) where
   -- ---- neighbours in one
 
-  paired_steps : (a : Slots) (bs : List Slots) → P (a ∷ bs) (paired a bs)
+  paired_steps : (a : PlainBundle) (bs : List PlainBundle) → P (a ∷ bs) (paired a bs)
   paired_steps a [] = step.same (a ∷ [])
   paired_steps a (b ∷ bs) =
       elim (is_idle b) as (λ idles. is_idle b ≡ idles → P (a ∷ b ∷ bs) (if idles then paired a bs else
@@ -134,7 +136,7 @@ module _ (P : List Slots → List Slots → Type 0) (step : AtEachStep P) where
             ] refl
       ] refl
 
-  pairs_steps : (bs : List Slots) → P bs (in_pairs bs)
+  pairs_steps : (bs : List PlainBundle) → P bs (in_pairs bs)
   pairs_steps [] = step.same []
   pairs_steps (b ∷ bs) =
       elim (is_idle b) as (λ idles. is_idle b ≡ idles → P (b ∷ bs) (if idles then in_pairs bs else paired b bs)) [
@@ -144,23 +146,24 @@ module _ (P : List Slots → List Slots → Type 0) (step : AtEachStep P) where
 
   -- ---- one more bundle
 
-  after_cleaned : (b : Slots) (xs ys : List Slots) → P (cleaned xs) (cleaned ys)
+  after_cleaned : (b : PlainBundle) (xs ys : List PlainBundle) → P (cleaned xs) (cleaned ys)
       → P (cleaned (b ∷ xs)) (cleaned (b ∷ ys))
   after_cleaned b xs ys h =
       elim (is_idle b) as (λ idles. P (if idles then cleaned xs else b ∷ cleaned xs) (if idles then cleaned ys else b
       ∷ cleaned ys)) [ true ↦ h | false ↦ step.behind b (cleaned xs) (cleaned ys) h ]
 
-  onto_cleaned : (bs xs ys : List Slots) → P (cleaned xs) (cleaned ys) → P (cleaned (reverse_aux bs xs)) (cleaned
+  onto_cleaned : (bs xs ys : List PlainBundle) → P (cleaned xs) (cleaned ys) → P (cleaned (reverse_aux bs xs)) (cleaned
       (reverse_aux bs ys))
   onto_cleaned [] xs ys h = h
   onto_cleaned (b ∷ bs) xs ys h = onto_cleaned bs (b ∷ xs) (b ∷ ys) (after_cleaned b xs ys h)
 
-  module _ (x : Slots) (busy : is_idle x ≡ false) where
+  module _ (x : PlainBundle) (busy : is_idle x ≡ false) where
     -- two that stand together
-    two_cleaned : (b : Slots) (rest : List Slots) → is_idle b ≡ false → cleaned (b ∷ x ∷ rest) ≡ b ∷ x ∷ cleaned rest
+    two_cleaned : (b : PlainBundle) (rest : List PlainBundle) → is_idle b ≡ false → cleaned (b ∷ x ∷ rest)
+        ≡ b ∷ x ∷ cleaned rest
     two_cleaned b rest other = cleaned_busy b (x ∷ rest) other ∙ ap (λ ys. b ∷ ys) (cleaned_busy x rest busy)
 
-    stands_steps : (b : Slots) (rest : List Slots) → has_place b x ≡ true
+    stands_steps : (b : PlainBundle) (rest : List PlainBundle) → has_place b x ≡ true
         → P (cleaned (b ∷ x ∷ rest)) (cleaned (row_with b x ∷ rest))
     stands_steps b rest here =
         elim (is_idle b) as (λ idles. is_idle b ≡ idles → (idles || (can_join b x || (goes_by b x && can_join x b)))
@@ -173,7 +176,8 @@ module _ (P : List Slots → List Slots → Type 0) (step : AtEachStep P) where
               (sym (two_cleaned b rest other)) (beside b rest other h)
         ] refl here
       where
-        beside : (b : Slots) (rest : List Slots) → is_idle b ≡ false → (can_join b x || (goes_by b x && can_join x b))
+        beside : (b : PlainBundle) (rest : List PlainBundle) → is_idle b ≡ false
+            → (can_join b x || (goes_by b x && can_join x b))
             ≡ true
             → P (b ∷ x ∷ cleaned rest) (cleaned ((if can_join b x then pair b x else pair x b) ∷ rest))
         beside b rest other here =
@@ -188,7 +192,7 @@ module _ (P : List Slots → List Slots → Type 0) (step : AtEachStep P) where
                   (step.swapped b x (cleaned rest) both.0) (step.joined x b (cleaned rest) other both.1))
             ] refl here
 
-    goes_steps : (b : Slots) (rest : List Slots) → can_pass b x ≡ true
+    goes_steps : (b : PlainBundle) (rest : List PlainBundle) → can_pass b x ≡ true
         → P (cleaned (b ∷ x ∷ rest)) (cleaned (x ∷ b ∷ rest))
     goes_steps b rest goes =
         elim (is_idle b) as (λ idles. is_idle b ≡ idles → (idles || goes_by b x) ≡ true
@@ -204,11 +208,12 @@ module _ (P : List Slots → List Slots → Type 0) (step : AtEachStep P) where
               (subst (P (b ∷ x ∷ cleaned rest)) (sym back) (step.swapped b x (cleaned rest) by))
         ] refl goes
 
-    module _ (all : List Slots) where
-      abbrev Stands : ℕ × Slots → Type 0
+    module _ (all : List PlainBundle) where
+      abbrev Stands : ℕ × PlainBundle → Type 0
       Stands at = P (cleaned (all ++ x ∷ [])) (cleaned (slice_set all at.0 at.1))
 
-      back_steps : (n : ℕ) (others rest : List Slots) (found : Option (ℕ × Slots)) → reverse_aux others rest ≡ all
+      back_steps : (n : ℕ) (others rest : List PlainBundle) (found : Option (ℕ × PlainBundle))
+          → reverse_aux others rest ≡ all
           → P (cleaned (all ++ x ∷ [])) (cleaned (reverse_aux others (x ∷ rest))) → IfSome found Stands
           → IfSome (place n x others found) Stands
       back_steps zero others rest found is moved claim = claim
@@ -239,7 +244,7 @@ module _ (P : List Slots → List Slots → Type 0) (step : AtEachStep P) where
               (onto_cleaned others (b ∷ x ∷ rest) (row_with b x ∷ rest)
               (stands_steps b rest (and_parts (not (is_too_early others x)) (has_place b x) here).1)))
 
-    last_cleaned : (bs : List Slots) → cleaned (stood_last x bs) ≡ cleaned (bs ++ x ∷ [])
+    last_cleaned : (bs : List PlainBundle) → cleaned (stood_last x bs) ≡ cleaned (bs ++ x ∷ [])
     last_cleaned bs =
         elim (is_too_early (reverse bs) x) as (λ early. cleaned (bs ++ (if early then idle ∷ x ∷ [] else x ∷ []))
         ≡ cleaned (bs ++ x ∷ [])) [
@@ -247,7 +252,7 @@ module _ (P : List Slots → List Slots → Type 0) (step : AtEachStep P) where
           | false ↦ refl
         ]
 
-    pub put_steps : (bs : List Slots) → P (cleaned bs ++ x ∷ []) (cleaned (put x bs))
+    pub put_steps : (bs : List PlainBundle) → P (cleaned bs ++ x ∷ []) (cleaned (put x bs))
     put_steps bs =
         subst (λ ys. P ys (cleaned (put x bs))) (cleaned_append bs (x ∷ [])
         ∙ ap (λ ys. cleaned bs ++ ys) (cleaned_busy x [] busy))
@@ -263,14 +268,16 @@ module _ (P : List Slots → List Slots → Type 0) (step : AtEachStep P) where
         at_end : P (cleaned (bs ++ x ∷ [])) (cleaned (stood_last x bs))
         at_end = subst (P (cleaned (bs ++ x ∷ []))) (sym (last_cleaned bs)) (step.same (cleaned (bs ++ x ∷ [])))
 
-        so : (o : Option (ℕ × Slots)) → IfSome o (λ at. P (cleaned (bs ++ x ∷ [])) (cleaned (slice_set bs at.0 at.1)))
+        so : (o : Option (ℕ × PlainBundle)) → IfSome o (λ at. P (cleaned (bs ++ x ∷ []))
+            (cleaned (slice_set bs at.0 at.1)))
             → P (cleaned (bs ++ x ∷ [])) (cleaned (stood x bs o))
         so None h = at_end
         so (Some at) h = h
 
 -- ---- the same with code after it
 
-suffixed : (P : List Slots → List Slots → Type 0) → AtEachStep P → AtEachStep (λ xs ys. (rest : List Slots)
+suffixed : (P : List PlainBundle → List PlainBundle → Type 0) → AtEachStep P
+    → AtEachStep (λ xs ys. (rest : List PlainBundle)
     → P (xs ++ rest) (ys ++ rest))
 suffixed P step = record {
   same = λ bs rest. step.same (bs ++ rest);
@@ -282,18 +289,18 @@ suffixed P step = record {
   swapped = λ b x bs by rest. step.swapped b x (bs ++ rest) by;
 }
 
-module _ (P : List Slots → List Slots → Type 0) (step : AtEachStep P) where
-  front_steps : (bs xs ys : List Slots) → P xs ys → P (bs ++ xs) (bs ++ ys)
+module _ (P : List PlainBundle → List PlainBundle → Type 0) (step : AtEachStep P) where
+  front_steps : (bs xs ys : List PlainBundle) → P xs ys → P (bs ++ xs) (bs ++ ys)
   front_steps [] xs ys h = h
   front_steps (b ∷ bs) xs ys h = step.behind b (bs ++ xs) (bs ++ ys) (front_steps bs xs ys h)
 
-  one_steps : (x : Slots) (bs rest : List Slots) → is_idle x ≡ false
+  one_steps : (x : PlainBundle) (bs rest : List PlainBundle) → is_idle x ≡ false
       → P (cleaned bs ++ x ∷ rest) (cleaned (put x bs) ++ rest)
   one_steps x bs rest busy =
       subst (λ ys. P ys (cleaned (put x bs) ++ rest)) (append_assoc (cleaned bs) (x ∷ []) rest)
-      (put_steps (λ xs ys. (rest : List Slots) → P (xs ++ rest) (ys ++ rest)) (suffixed P step) x busy bs rest)
+      (put_steps (λ xs ys. (rest : List PlainBundle) → P (xs ++ rest) (ys ++ rest)) (suffixed P step) x busy bs rest)
 
-  after_steps : (done bs : List Slots) → P (cleaned done ++ bs) (cleaned (ordered_after done bs))
+  after_steps : (done bs : List PlainBundle) → P (cleaned done ++ bs) (cleaned (ordered_after done bs))
   after_steps done [] = subst (λ xs. P xs (cleaned done)) (sym (append-nil (cleaned done))) (step.same (cleaned done))
   after_steps done (b ∷ bs) =
       let c = without_nop b in
@@ -309,10 +316,10 @@ module _ (P : List Slots → List Slots → Type 0) (step : AtEachStep P) where
       ] refl)
 
   -- what is ordered, but for what does nothing
-  pub ordered_steps : (bs : List Slots) → P bs (cleaned (ordered bs))
+  pub ordered_steps : (bs : List PlainBundle) → P bs (cleaned (ordered bs))
   ordered_steps bs = after_steps [] bs
 
-  pub packed_steps : (bs : List Slots) → P bs (packed bs)
+  pub packed_steps : (bs : List PlainBundle) → P bs (packed bs)
   packed_steps bs =
       subst (P bs) (pairs_cleaned (ordered bs))
       (step.through bs (cleaned (ordered bs)) (in_pairs (cleaned (ordered bs))) (ordered_steps bs)
@@ -320,7 +327,7 @@ module _ (P : List Slots → List Slots → Type 0) (step : AtEachStep P) where
 
   -- ---- what goes back over all that stands before it
 
-  cleaned_steps : (bs : List Slots) → P bs (cleaned bs)
+  cleaned_steps : (bs : List PlainBundle) → P bs (cleaned bs)
   cleaned_steps [] = step.same []
   cleaned_steps (b ∷ bs) =
       elim (is_idle b) as (λ idles. is_idle b ≡ idles → P (b ∷ bs) (if idles then cleaned bs else b ∷ cleaned bs)) [
@@ -329,7 +336,8 @@ module _ (P : List Slots → List Slots → Type 0) (step : AtEachStep P) where
       ] refl
 
   -- one that does something
-  busy_back : (x : Slots) (bs rest : List Slots) → is_idle x ≡ false → list_all (λ b. can_pass b x) bs ≡ true
+  busy_back : (x : PlainBundle) (bs rest : List PlainBundle) → is_idle x ≡ false → list_all (λ b. can_pass b x) bs
+      ≡ true
       → P (cleaned (bs ++ x ∷ rest)) (cleaned (x ∷ bs ++ rest))
   busy_back x [] rest busy goes = step.same (cleaned (x ∷ rest))
   busy_back x (b ∷ bs) rest busy goes =
@@ -339,7 +347,7 @@ module _ (P : List Slots → List Slots → Type 0) (step : AtEachStep P) where
       (goes_steps P step x busy b (bs ++ rest) both.0)
 
   -- any
-  one_back : (x : Slots) (bs rest : List Slots) → goes_back bs x ≡ true
+  one_back : (x : PlainBundle) (bs rest : List PlainBundle) → goes_back bs x ≡ true
       → P (cleaned (bs ++ x ∷ rest)) (cleaned (x ∷ bs ++ rest))
   one_back x bs rest goes =
       elim (is_idle x) as (λ idles. is_idle x ≡ idles → (idles || list_all (λ b. can_pass b x) bs) ≡ true
@@ -350,7 +358,7 @@ module _ (P : List Slots → List Slots → Type 0) (step : AtEachStep P) where
         | false ↦ λ busy h. busy_back x bs rest busy h
       ] refl goes
 
-  all_back : (xs bs : List Slots) → all_go_back bs xs ≡ true → P (cleaned (bs ++ xs)) (cleaned (xs ++ bs))
+  all_back : (xs bs : List PlainBundle) → all_go_back bs xs ≡ true → P (cleaned (bs ++ xs)) (cleaned (xs ++ bs))
   all_back [] bs goes =
       subst (λ ys. P (cleaned (bs ++ [])) (cleaned ys)) (append-nil bs) (step.same (cleaned (bs ++ [])))
   all_back (x ∷ xs) bs goes =
@@ -359,7 +367,7 @@ module _ (P : List Slots → List Slots → Type 0) (step : AtEachStep P) where
       (after_cleaned P step x (bs ++ xs) (xs ++ bs) (all_back xs bs both.1))
 
   -- what is held and what stands before a branch, in the order in which they are packed
-  pub arranged_steps : (held front back : List Slots) → P (held ++ front) (packed (arranged held front back))
+  pub arranged_steps : (held front back : List PlainBundle) → P (held ++ front) (packed (arranged held front back))
   arranged_steps held front back =
       elim (comes_first held front back) as (λ first. comes_first held front back ≡ first
       → P (held ++ front) (packed (if first then front ++ held else held ++ front))) [

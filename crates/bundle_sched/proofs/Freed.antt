@@ -3,7 +3,7 @@ use Rattle.std.proofs.Common.{◌≡◌, Bool, true, false, true≢false, if◌t
 use Rattle.std.specs.Prelude.{◌&&◌, ◌||◌, not}
 use Rattle.std.proofs.lemmas.Bool.{and_parts}
 use Rattle.std.proofs.Math.Bool.{and-true}
-use Rattle.patmos_instr.specs.Bundles.{Slots}
+use Rattle.patmos_instr.specs.Bundles.{PlainBundle}
 use Rattle.patmos_instr.specs.Instructions.{is_second_kind}
 use Rattle.patmos_instr.specs.declared.instructions.Instr.{Instr}
 use Rattle.patmos_instr.specs.declared.instructions.Op.{Op}
@@ -18,12 +18,13 @@ use Rattle.bundle_sched.specs.Packing.{can_move, filled, can_leave, freed}
 -- ---- a second instruction that does nothing
 
 -- what holds of each bundle and itself, and where one that does nothing leaves it
-pub without_nop_as : (P : Slots → Slots → Type 0) → ((b : Slots) → P b b) → ((b : Slots) (i : Instr) → b.second ≡ Some i
-    → is_nop i ≡ true → P (lone b.first) b) → (b : Slots) → P (without_nop b) b
+pub without_nop_as : (P : PlainBundle → PlainBundle → Type 0) → ((b : PlainBundle) → P b b)
+    → ((b : PlainBundle) (i : Instr) → b.second ≡ Some i
+    → is_nop i ≡ true → P (lone b.first) b) → (b : PlainBundle) → P (without_nop b) b
 without_nop_as P same leaves b = so b.second refl
   where
     so : (o : Option Instr) → b.second ≡ o
-        → P (elim o as (λ _. Slots) [ None ↦ b | Some i ↦ if is_nop i then lone b.first else b ]) b
+        → P (elim o as (λ _. PlainBundle) [ None ↦ b | Some i ↦ if is_nop i then lone b.first else b ]) b
     so None is = same b
     so (Some i) is = elim (is_nop i) as (λ nop. is_nop i ≡ nop → P (if nop then lone b.first else b) b) [
       | true ↦ λ nop.
@@ -36,23 +37,23 @@ nop_idle i nop = ap (λ o. is_always i.guard && o) (and-true (is_idle_op i.op)) 
 
 -- ---- an instruction beside a flow
 
-pub record Leaving (flow : Slots) (i : Instr) (last : Slots) : Type 0 where
+pub record Leaving (flow : PlainBundle) (i : Instr) (last : PlainBundle) : Type 0 where
   pub beside : flow.second ≡ Some i
   pub flows : is_flow flow.first.op ≡ true
   pub kind : is_second_kind i.op ≡ true
   pub idles : is_idle last ≡ true
 
 -- what holds of each tail and itself, and where the instruction leaves its flow
-pub freed_as : (P : List Slots → List Slots → Type 0) → ((tail : List Slots) → P tail tail)
-    → ((flow slot : Slots) (slots : List Slots) (i : Instr) → Leaving flow i (last_or slot slots)
-    → P (filled (lone i) (lone flow.first ∷ slot ∷ slots)) (flow ∷ slot ∷ slots)) → (tail : List Slots)
+pub freed_as : (P : List PlainBundle → List PlainBundle → Type 0) → ((tail : List PlainBundle) → P tail tail)
+    → ((flow slot : PlainBundle) (slots : List PlainBundle) (i : Instr) → Leaving flow i (last_or slot slots)
+    → P (filled (lone i) (lone flow.first ∷ slot ∷ slots)) (flow ∷ slot ∷ slots)) → (tail : List PlainBundle)
     → P (freed tail) tail
 freed_as P same leaves [] = same []
 freed_as P same leaves (flow ∷ []) = same (flow ∷ [])
 freed_as P same leaves (flow ∷ slot ∷ slots) = so flow.second refl
   where
     so : (o : Option Instr) → flow.second ≡ o
-        → P (elim o as (λ _. List Slots) [
+        → P (elim o as (λ _. List PlainBundle) [
           | None ↦ flow ∷ slot ∷ slots
           | Some i ↦ if can_leave flow i
               (last_or slot slots) then filled (lone i) (lone flow.first ∷ slot ∷ slots) else flow ∷ slot ∷ slots
@@ -84,10 +85,12 @@ second_moves i kind = so i.op kind
     so _ h = absurd (true≢false (sym h))
 
 -- what holds of a tail, by the first instructions of its bundles, holds of it with the flow alone
-pub freed_holds : (holds : List Slots → Bool) → ((b : Slots) (tail : List Slots) → can_move b ≡ true → holds tail ≡ true
+pub freed_holds : (holds : List PlainBundle → Bool) → ((b : PlainBundle) (tail : List PlainBundle) → can_move b ≡ true
+    → holds tail ≡ true
     → holds (filled b tail) ≡ true)
-    → ((flow : Slots) (slots : List Slots) → holds (flow ∷ slots) ≡ true → holds (lone flow.first ∷ slots) ≡ true)
-    → (tail : List Slots) → holds tail ≡ true → holds (freed tail) ≡ true
+    → ((flow : PlainBundle) (slots : List PlainBundle) → holds (flow ∷ slots) ≡ true → holds (lone flow.first ∷ slots)
+    ≡ true)
+    → (tail : List PlainBundle) → holds tail ≡ true → holds (freed tail) ≡ true
 freed_holds holds fills alone =
     freed_as (λ xs tail. holds tail ≡ true → holds xs ≡ true) (λ tail h. h)
     (λ flow slot slots i out h. fills (lone i) (lone flow.first ∷ slot ∷ slots) (second_moves i out.kind)

@@ -5,7 +5,7 @@ use Rattle.std.specs.Prelude.{◌&&◌, ◌||◌, is_none}
 use Rattle.std.specs.List.{list_all}
 use Rattle.std.proofs.lemmas.Bool.{and_parts, and_from, not-true}
 use Rattle.std.proofs.Math.Bool.{and-true}
-use Rattle.patmos_instr.specs.Bundles.{Slots, is_legal}
+use Rattle.patmos_instr.specs.Bundles.{PlainBundle, is_legal}
 use Rattle.patmos_instr.specs.Instructions.{is_long, is_second_kind}
 use Rattle.sp_shape.specs.Bundles.{is_idle_op, is_idle, way_idles, iteration_idles, parts_idle}
 use Rattle.sp_shape.specs.Formed.{is_branch, is_call, is_return, is_fill, is_flow, is_always, are_calm, are_delay_slots, is_iteration, is_way}
@@ -31,19 +31,19 @@ use Rattle.bundle_sched.proofs.TwoInOne.{pairs, second_false, pair_idle}
 use Rattle.bundle_sched.proofs.Merged.{all_steps, all_but_last, all_kept, all_way}
 
 -- a bundle of one instruction
-abbrev pub is_alone : Slots → Bool
+abbrev pub is_alone : PlainBundle → Bool
 is_alone b = is_none b.second
 
 -- ---- no neighbours that can be one
 
-abbrev pairless : List Slots → Bool
+abbrev pairless : List PlainBundle → Bool
 pairless (a ∷ b ∷ bs) = not (can_pair a b) && pairless (b ∷ bs)
 pairless _ = true
 
-pair_full : (z a b : Slots) → can_pair z (pair a b) ≡ false
+pair_full : (z a b : PlainBundle) → can_pair z (pair a b) ≡ false
 pair_full z a b = second_false (not (is_late z.first.op)) (is_small z && false) (second_false (is_small z) false refl)
 
-after_paired : (z a : Slots) (bs : List Slots) → can_pair z a ≡ false → pairless (z ∷ paired a bs) ≡ true
+after_paired : (z a : PlainBundle) (bs : List PlainBundle) → can_pair z a ≡ false → pairless (z ∷ paired a bs) ≡ true
 after_paired z a [] apart = and_from (not (can_pair z a)) true (ap not apart) refl
 after_paired z a (b ∷ bs) apart =
     elim (is_idle b) as (λ idles. pairless (z ∷ (if idles then paired a bs else
@@ -57,7 +57,7 @@ after_paired z a (b ∷ bs) apart =
           ] refl
     ]
 
-paired_pairless : (a : Slots) (bs : List Slots) → pairless (paired a bs) ≡ true
+paired_pairless : (a : PlainBundle) (bs : List PlainBundle) → pairless (paired a bs) ≡ true
 paired_pairless a [] = refl
 paired_pairless a (b ∷ bs) =
     elim (is_idle b) as (λ idles. pairless (if idles then paired a bs else
@@ -70,55 +70,57 @@ paired_pairless a (b ∷ bs) =
           ] refl
     ]
 
-pairs_pairless : (bs : List Slots) → pairless (in_pairs bs) ≡ true
+pairs_pairless : (bs : List PlainBundle) → pairless (in_pairs bs) ≡ true
 pairs_pairless [] = refl
 pairs_pairless (b ∷ bs) = elim (is_idle b) as (λ idles. pairless (if idles then in_pairs bs else paired b bs) ≡ true)
     [ true ↦ pairs_pairless bs | false ↦ paired_pairless b bs ]
 
-packed_pairless : (bs : List Slots) → pairless (packed bs) ≡ true
+packed_pairless : (bs : List PlainBundle) → pairless (packed bs) ≡ true
 packed_pairless bs = pairs_pairless (ordered bs)
 
-front_pairless : (b : Slots) (bs : List Slots) → pairless (b ∷ bs) ≡ true → pairless (but_last b bs) ≡ true
+front_pairless : (b : PlainBundle) (bs : List PlainBundle) → pairless (b ∷ bs) ≡ true → pairless (but_last b bs) ≡ true
 front_pairless b [] h = refl
 front_pairless b (c ∷ []) h = refl
 front_pairless b (c ∷ d ∷ ds) h =
     let both = and_parts (not (can_pair b c)) (pairless (c ∷ d ∷ ds)) h in
     and_from (not (can_pair b c)) (pairless (but_last c (d ∷ ds))) both.0 (front_pairless c (d ∷ ds) both.1)
 
-one_pairless : (bs tail : List Slots) → pairless bs ≡ true → pairless (kept_by_one bs tail) ≡ true
+one_pairless : (bs tail : List PlainBundle) → pairless bs ≡ true → pairless (kept_by_one bs tail) ≡ true
 one_pairless [] tail h = refl
 one_pairless (b ∷ bs) tail h = elim (goes_down (b ∷ bs) tail) as (λ down. pairless (if down then but_last b bs else b
     ∷ bs) ≡ true) [ true ↦ front_pairless b bs h | false ↦ h ]
 
-kept_pairless : (n : ℕ) (bs tail : List Slots) → pairless bs ≡ true → pairless (kept_after n bs tail) ≡ true
+kept_pairless : (n : ℕ) (bs tail : List PlainBundle) → pairless bs ≡ true → pairless (kept_after n bs tail) ≡ true
 kept_pairless zero bs tail h = h
 kept_pairless (suc n) bs tail h = kept_pairless n (kept_by_one bs tail) (way_by_one bs tail) (one_pairless bs tail h)
 
 -- ---- spaced, no three are mergeable
 
-merge_from : (x a b : Slots) (bs : List Slots) → mergeable x a b ≡ false → none_mergeable (a ∷ b ∷ bs) ≡ true
+merge_from : (x a b : PlainBundle) (bs : List PlainBundle) → mergeable x a b ≡ false → none_mergeable (a ∷ b ∷ bs)
+    ≡ true
     → none_mergeable (x ∷ a ∷ b ∷ bs) ≡ true
 merge_from x a b bs apart h = and_from (not (mergeable x a b)) (none_mergeable (a ∷ b ∷ bs)) (ap not apart) h
 
-after_late : (x : Slots) → is_late x.first.op ≡ true → (a b : Slots) → mergeable x a b ≡ false
+after_late : (x : PlainBundle) → is_late x.first.op ≡ true → (a b : PlainBundle) → mergeable x a b ≡ false
 after_late x late a b = ap (λ l. not l && can_pair a b) late
 
-late_alone : (x a b : Slots) → is_late a.first.op ≡ true → mergeable x a b ≡ false
+late_alone : (x a b : PlainBundle) → is_late a.first.op ≡ true → mergeable x a b ≡ false
 late_alone x a b late = second_false (not (is_late x.first.op)) (can_pair a b) (ap (λ l. not l && can_join a b) late)
 
 -- three of which the first or the second is late, or the two after cannot be one
-before_any : (x a : Slots) (ys : List Slots) → ((b : Slots) → mergeable x a b ≡ false) → none_mergeable (a ∷ ys) ≡ true
+before_any : (x a : PlainBundle) (ys : List PlainBundle) → ((b : PlainBundle) → mergeable x a b ≡ false)
+    → none_mergeable (a ∷ ys) ≡ true
     → none_mergeable (x ∷ a ∷ ys) ≡ true
 before_any x a [] apart h = refl
 before_any x a (b ∷ ys) apart h = merge_from x a b ys (apart b) h
 
-before_head : (x a c : Slots) (awaited : Bool) (ys : List Slots) → mergeable x a c ≡ false
+before_head : (x a c : PlainBundle) (awaited : Bool) (ys : List PlainBundle) → mergeable x a c ≡ false
     → none_mergeable (a ∷ ((if awaited then c ∷ idle ∷ [] else c ∷ []) ++ ys)) ≡ true
     → none_mergeable (x ∷ a ∷ ((if awaited then c ∷ idle ∷ [] else c ∷ []) ++ ys)) ≡ true
 before_head x a c true ys apart h = merge_from x a c (idle ∷ ys) apart h
 before_head x a c false ys apart h = merge_from x a c ys apart h
 
-spaced_after : (x : Slots) (bs : List Slots) → pairless bs ≡ true → none_mergeable (x ∷ spaced bs) ≡ true
+spaced_after : (x : PlainBundle) (bs : List PlainBundle) → pairless bs ≡ true → none_mergeable (x ∷ spaced bs) ≡ true
 spaced_after x [] h = refl
 spaced_after x (b ∷ []) h =
     elim (is_late b.first.op) as (λ late. is_late b.first.op ≡ late
@@ -138,7 +140,7 @@ spaced_after x (b ∷ c ∷ cs) h =
           (can_pair b c) (not-true (can_pair b c) both.0)) (spaced_after b (c ∷ cs) both.1)
     ] refl
 
-spaced_none : (bs : List Slots) → pairless bs ≡ true → none_mergeable (spaced bs) ≡ true
+spaced_none : (bs : List PlainBundle) → pairless bs ≡ true → none_mergeable (spaced bs) ≡ true
 spaced_none [] h = refl
 spaced_none (b ∷ bs) h =
     elim (is_awaited b bs) as (λ awaited. is_awaited b bs ≡ awaited
@@ -148,12 +150,12 @@ spaced_none (b ∷ bs) h =
       | false ↦ λ is. spaced_after b bs (rest_pairless b bs h)
     ] refl
   where
-    rest_pairless : (b : Slots) (bs : List Slots) → pairless (b ∷ bs) ≡ true → pairless bs ≡ true
+    rest_pairless : (b : PlainBundle) (bs : List PlainBundle) → pairless (b ∷ bs) ≡ true → pairless bs ≡ true
     rest_pairless b [] h = refl
     rest_pairless b (c ∷ cs) h = (and_parts (not (can_pair b c)) (pairless (c ∷ cs)) h).1
 
 -- nor the first two
-first_spaced : (bs : List Slots) → pairless bs ≡ true → first_apart (spaced bs) ≡ true
+first_spaced : (bs : List PlainBundle) → pairless bs ≡ true → first_apart (spaced bs) ≡ true
 first_spaced [] h = refl
 first_spaced (b ∷ bs) h =
     elim (is_awaited b bs) as (λ awaited. is_awaited b bs ≡ awaited
@@ -162,7 +164,7 @@ first_spaced (b ∷ bs) h =
       | false ↦ λ is. so bs h
     ] refl
   where
-    so : (bs : List Slots) → pairless (b ∷ bs) ≡ true → first_apart (b ∷ spaced bs) ≡ true
+    so : (bs : List PlainBundle) → pairless (b ∷ bs) ≡ true → first_apart (b ∷ spaced bs) ≡ true
     so [] h = refl
     so (c ∷ cs) h =
         let first = (and_parts (not (can_pair b c)) (pairless (c ∷ cs)) h).0 in
@@ -171,10 +173,10 @@ first_spaced (b ∷ bs) h =
 
 -- ---- no bundle of packed code does nothing, alone or in its second slot
 
-abbrev is_busy : Slots → Bool
+abbrev is_busy : PlainBundle → Bool
 is_busy b = not (is_idle b)
 
-alone_filled : (b : Slots) → is_alone b ≡ true → is_filled b ≡ true
+alone_filled : (b : PlainBundle) → is_alone b ≡ true → is_filled b ≡ true
 alone_filled b h = so b.second h
   where
     so : (o : Option Instr) → is_none o ≡ true → (elim o as (λ _. Bool) [ None ↦ true | Some i ↦ not (is_nop i) ])
@@ -182,7 +184,7 @@ alone_filled b h = so b.second h
     so None h = refl
     so (Some i) h = absurd (true≢false (sym h))
 
-busy_nop : (b : Slots) → is_alone b ≡ true → is_idle b ≡ false → is_nop b.first ≡ false
+busy_nop : (b : PlainBundle) → is_alone b ≡ true → is_idle b ≡ false → is_nop b.first ≡ false
 busy_nop b alone busy =
     elim (is_always b.first.guard) as (λ always. (always && (is_idle_op b.first.op && is_none b.second)) ≡ false
     → (always && is_idle_op b.first.op) ≡ false) [
@@ -191,17 +193,17 @@ busy_nop b alone busy =
     ] busy
 
 -- filled, and it does something
-abbrev is_good : Slots → Bool
+abbrev is_good : PlainBundle → Bool
 is_good b = is_filled b && is_busy b
 
-pair_busy : (a b : Slots) → is_busy (pair a b) ≡ true
+pair_busy : (a b : PlainBundle) → is_busy (pair a b) ≡ true
 pair_busy a b = ap not (pair_idle a b)
 
 -- the second of a pair does something
-pair_filled : (a b : Slots) → is_idle b ≡ false → can_join a b ≡ true → is_filled (pair a b) ≡ true
+pair_filled : (a b : PlainBundle) → is_idle b ≡ false → can_join a b ≡ true → is_filled (pair a b) ≡ true
 pair_filled a b busy can = ap not (busy_nop b (pairs a b can).second_alone busy)
 
-good_paired : (a : Slots) (bs : List Slots) → is_good a ≡ true → list_all is_filled bs ≡ true
+good_paired : (a : PlainBundle) (bs : List PlainBundle) → is_good a ≡ true → list_all is_filled bs ≡ true
     → list_all is_good (paired a bs) ≡ true
 good_paired a [] ha h = and_from (is_good a) true ha refl
 good_paired a (b ∷ bs) ha h =
@@ -218,7 +220,7 @@ good_paired a (b ∷ bs) ha h =
           ] refl
     ] refl
 
-good_pairs : (bs : List Slots) → list_all is_filled bs ≡ true → list_all is_good (in_pairs bs) ≡ true
+good_pairs : (bs : List PlainBundle) → list_all is_filled bs ≡ true → list_all is_good (in_pairs bs) ≡ true
 good_pairs [] h = refl
 good_pairs (b ∷ bs) h =
     let both = and_parts (is_filled b) (list_all is_filled bs) h in
@@ -229,11 +231,11 @@ good_pairs (b ∷ bs) h =
     ] refl
 
 -- ordered code is filled, since what comes in has no second instruction that does nothing
-nop_filled : (b : Slots) → is_filled (without_nop b) ≡ true
+nop_filled : (b : PlainBundle) → is_filled (without_nop b) ≡ true
 nop_filled b = so b.second refl
   where
     so : (o : Option Instr) → b.second ≡ o
-        → is_filled (elim o as (λ _. Slots) [ None ↦ b | Some i ↦ if is_nop i then lone b.first else b ]) ≡ true
+        → is_filled (elim o as (λ _. PlainBundle) [ None ↦ b | Some i ↦ if is_nop i then lone b.first else b ]) ≡ true
     so None is = ap (λ o. elim o as (λ _. Bool) [ None ↦ true | Some i ↦ not (is_nop i) ]) is
     so (Some i) is =
         elim (is_nop i) as (λ nop. is_nop i ≡ nop → is_filled (if nop then lone b.first else b) ≡ true) [
@@ -241,7 +243,7 @@ nop_filled b = so b.second refl
           | false ↦ λ busy. ap (λ o. elim o as (λ _. Bool) [ None ↦ true | Some i ↦ not (is_nop i) ]) is ∙ ap not busy
         ] refl
 
-after_filled : (done bs : List Slots) → list_all is_filled (cleaned done) ≡ true
+after_filled : (done bs : List PlainBundle) → list_all is_filled (cleaned done) ≡ true
     → list_all is_filled (cleaned (ordered_after done bs)) ≡ true
 after_filled done [] h = h
 after_filled done (b ∷ bs) h =
@@ -256,11 +258,11 @@ after_filled done (b ∷ bs) h =
           (all_append is_filled (cleaned done) (c ∷ []) h (and_from (is_filled c) true (nop_filled b) refl)))
     ] refl
 
-good_packed : (bs : List Slots) → list_all is_good (packed bs) ≡ true
+good_packed : (bs : List PlainBundle) → list_all is_good (packed bs) ≡ true
 good_packed bs = ap (list_all is_good) (sym (pairs_cleaned (ordered bs)))
     ∙ good_pairs (cleaned (ordered bs)) (after_filled [] bs refl)
 
-filled_spaced : (bs : List Slots) → list_all is_filled bs ≡ true → list_all is_filled (spaced bs) ≡ true
+filled_spaced : (bs : List PlainBundle) → list_all is_filled bs ≡ true → list_all is_filled (spaced bs) ≡ true
 filled_spaced [] h = refl
 filled_spaced (b ∷ bs) h =
     let both = and_parts (is_filled b) (list_all is_filled bs) h in
@@ -273,14 +275,14 @@ filled_spaced (b ∷ bs) h =
 
 -- ---- pieces of straight code
 
-some_spaced : (b : Slots) (bs : List Slots) → some_bundle (spaced (b ∷ bs)) ≡ true
+some_spaced : (b : PlainBundle) (bs : List PlainBundle) → some_bundle (spaced (b ∷ bs)) ≡ true
 some_spaced b bs = elim (is_awaited b bs) as (λ awaited. some_bundle ((if awaited then b ∷ idle ∷ [] else b ∷ [])
     ++ spaced bs) ≡ true) [ true ↦ refl | false ↦ refl ]
 
-good_fills : (b : Slots) → is_good b ≡ true → is_filled b ≡ true
+good_fills : (b : PlainBundle) → is_good b ≡ true → is_filled b ≡ true
 good_fills b h = (and_parts (is_filled b) (is_busy b) h).0
 
-straights_packed : (bs : List Slots) (rest : PlainParts) → list_all is_good bs ≡ true → pairless bs ≡ true
+straights_packed : (bs : List PlainBundle) (rest : PlainParts) → list_all is_good bs ≡ true → pairless bs ≡ true
     → can_follow (straight (spaced bs)) (parts_placed rest) ≡ true → parts_packed (parts_placed rest) ≡ true
     → parts_packed (parts_placed (straights bs rest)) ≡ true
 straights_packed [] rest good apart follows h = h
@@ -304,16 +306,17 @@ or_first : (x y : Bool) → x ≡ true → (x || y) ≡ true
 or_first true y h = refl
 or_first false y h = absurd (true≢false (sym h))
 
-used_by_slot : (bs tail : List Slots) → slot_used tail ≡ true → is_used bs tail ≡ true
+used_by_slot : (bs tail : List PlainBundle) → slot_used tail ≡ true → is_used bs tail ≡ true
 used_by_slot [] tail h = refl
 used_by_slot (b ∷ bs) tail h = or_true (is_idle (last_or b bs) || holds_special (last_or b bs)) (slot_used tail) h
 
-used_by_last : (z : Slots) (bs tail : List Slots) → (is_idle (last_or z bs) || holds_special (last_or z bs)) ≡ true
+used_by_last : (z : PlainBundle) (bs tail : List PlainBundle) → (is_idle (last_or z bs) || holds_special (last_or z bs))
+    ≡ true
     → is_used bs tail ≡ true
 used_by_last z [] tail h = refl
 used_by_last z (b ∷ bs) tail h = or_first (is_idle (last_or b bs) || holds_special (last_or b bs)) (slot_used tail) h
 
-last_spaced : (z c : Slots) (cs : List Slots) → last_or z (spaced (c ∷ cs))
+last_spaced : (z c : PlainBundle) (cs : List PlainBundle) → last_or z (spaced (c ∷ cs))
     ≡ (if is_late (last_or c cs).first.op then idle else last_or c cs)
 last_spaced z c [] = elim (is_late c.first.op) as (λ late. last_or z ((if late then c ∷ idle ∷ [] else c ∷ []) ++ [])
     ≡ (if late then idle else c)) [ true ↦ refl | false ↦ refl ]
@@ -325,11 +328,11 @@ last_spaced z c (d ∷ ds) =
     ]
 
 -- a flow, and after it a bundle that does something
-abbrev slot_busy : List Slots → Bool
+abbrev slot_busy : List PlainBundle → Bool
 slot_busy (t ∷ slot ∷ slots) = is_flow t.first.op && is_busy slot
 slot_busy _ = false
 
-slot_spaced : (tail : List Slots) → slot_busy tail ≡ true → slot_used (spaced tail) ≡ true
+slot_spaced : (tail : List PlainBundle) → slot_busy tail ≡ true → slot_used (spaced tail) ≡ true
 slot_spaced [] h = absurd (true≢false (sym h))
 slot_spaced (t ∷ []) h = absurd (true≢false (sym h))
 slot_spaced (t ∷ b ∷ slots) h =
@@ -339,7 +342,7 @@ slot_spaced (t ∷ b ∷ slots) h =
     ∙ elim (is_awaited b slots) as (λ awaited. slot_used (t ∷ ((if awaited then b ∷ idle ∷ [] else b ∷ [])
     ++ spaced slots)) ≡ true) [ true ↦ both.1 | false ↦ both.1 ]
 
-filled_busy : (b : Slots) (tail : List Slots) → has_room b tail ≡ true → is_busy b ≡ true
+filled_busy : (b : PlainBundle) (tail : List PlainBundle) → has_room b tail ≡ true → is_busy b ≡ true
     → slot_busy (filled b tail) ≡ true
 filled_busy b [] room busy = absurd (true≢false (sym room))
 filled_busy b (t ∷ []) room busy = absurd (true≢false (sym room))
@@ -348,12 +351,13 @@ filled_busy b (t ∷ slot ∷ slots) room busy =
     and_from (is_flow t.first.op) (is_busy b) (and_parts (is_flow t.first.op)
     (is_none t.second && spares_guard b t.first.guard) both.0).0 busy
 
-last_good : (b : Slots) (bs : List Slots) → list_all is_good (b ∷ bs) ≡ true → is_busy (last_or b bs) ≡ true
+last_good : (b : PlainBundle) (bs : List PlainBundle) → list_all is_good (b ∷ bs) ≡ true → is_busy (last_or b bs) ≡ true
 last_good b bs good =
     (and_parts (is_filled (last_or b bs)) (is_busy (last_or b bs)) (all_but_last is_good b bs good).1).1
 
 -- it stays so
-one_busy : (bs tail : List Slots) → list_all is_good bs ≡ true → slot_busy tail ≡ true → slot_busy (way_by_one bs tail)
+one_busy : (bs tail : List PlainBundle) → list_all is_good bs ≡ true → slot_busy tail ≡ true
+    → slot_busy (way_by_one bs tail)
     ≡ true
 one_busy [] tail good h = h
 one_busy (b ∷ bs) tail good h =
@@ -364,14 +368,15 @@ one_busy (b ∷ bs) tail good h =
       | false ↦ λ is. h
     ] refl
 
-way_busy : (n : ℕ) (bs tail : List Slots) → list_all is_good bs ≡ true → slot_busy tail ≡ true
+way_busy : (n : ℕ) (bs tail : List PlainBundle) → list_all is_good bs ≡ true → slot_busy tail ≡ true
     → slot_busy (way_after n bs tail) ≡ true
 way_busy zero bs tail good h = h
 way_busy (suc n) bs tail good h =
     way_busy n (kept_by_one bs tail) (way_by_one bs tail) (all_kept is_good 1 bs tail good) (one_busy bs tail good h)
 
 -- where the last does not go, none goes
-none_goes : (n : ℕ) (b : Slots) (bs tail : List Slots) → goes_down (b ∷ bs) tail ≡ false → (kept_after n (b ∷ bs) tail
+none_goes : (n : ℕ) (b : PlainBundle) (bs tail : List PlainBundle) → goes_down (b ∷ bs) tail ≡ false
+    → (kept_after n (b ∷ bs) tail
     ≡ b ∷ bs) × (way_after n (b ∷ bs) tail ≡ tail)
 none_goes zero b bs tail up = (refl, refl)
 none_goes (suc n) b bs tail up =
@@ -380,12 +385,12 @@ none_goes (suc n) b bs tail up =
     let others = none_goes n b bs tail up in
     ((λ k. kept_after n (front k) (back k)) ∙ others.0, (λ k. way_after n (front k) (back k)) ∙ others.1)
 
-none_before : (n : ℕ) (tail : List Slots) → kept_after n [] tail ≡ []
+none_before : (n : ℕ) (tail : List PlainBundle) → kept_after n [] tail ≡ []
 none_before zero tail = refl
 none_before (suc n) tail = none_before n tail
 
 -- what cannot move is late, or holds a special register's write
-stays_put : (b : Slots) → can_move b ≡ false → is_flow b.first.op ≡ false → (z : Slots) → z
+stays_put : (b : PlainBundle) → can_move b ≡ false → is_flow b.first.op ≡ false → (z : PlainBundle) → z
     ≡ (if is_late b.first.op then idle else b) → (is_idle z || holds_special z) ≡ true
 stays_put b put calm z is =
     ap (λ x. is_idle x || holds_special x) is
@@ -400,12 +405,13 @@ stays_put b put calm z is =
     not_back true h = refl
     not_back false h = absurd (true≢false h)
 
-calm_last : (b : Slots) (bs : List Slots) → are_calm (b ∷ bs) ≡ true → is_flow (last_or b bs).first.op ≡ false
+calm_last : (b : PlainBundle) (bs : List PlainBundle) → are_calm (b ∷ bs) ≡ true → is_flow (last_or b bs).first.op
+    ≡ false
 calm_last b [] h = not-true (is_flow b.first.op) (and_parts (not (is_flow b.first.op)) true h).0
 calm_last b (c ∷ cs) h = calm_last c cs (and_parts (not (is_flow b.first.op)) (are_calm (c ∷ cs)) h).1
 
-way_used : (n : ℕ) (bs tail : List Slots) → are_calm bs ≡ true → list_all is_good bs ≡ true
-    → ((b : Slots) → has_room b tail ≡ true) → is_used (spaced (kept_after (suc n) bs tail)) (spaced
+way_used : (n : ℕ) (bs tail : List PlainBundle) → are_calm bs ≡ true → list_all is_good bs ≡ true
+    → ((b : PlainBundle) → has_room b tail ≡ true) → is_used (spaced (kept_after (suc n) bs tail)) (spaced
     (way_after (suc n) bs tail)) ≡ true
 way_used n [] tail calm good room = ap (λ xs. is_used (spaced xs) (spaced (way_after n [] tail))) (none_before n tail)
 way_used n (b ∷ bs) tail calm good room =
@@ -429,28 +435,28 @@ way_used n (b ∷ bs) tail calm good room =
 
 -- ---- a tail whose delay slots do nothing
 
-idle_filled : (b : Slots) → is_idle b ≡ true → is_filled b ≡ true
+idle_filled : (b : PlainBundle) → is_idle b ≡ true → is_filled b ≡ true
 idle_filled b h = alone_filled b (and_parts (is_idle_op b.first.op) (is_none b.second)
     (and_parts (is_always b.first.guard) (is_idle_op b.first.op && is_none b.second) h).1).1
 
 -- what is said of it once its flow stands alone: no second slot does nothing, and it has room for what spares the
 -- flow's guard
-record FlowAlone (flow : Slots) (tail : List Slots) : Type 0 where
+record FlowAlone (flow : PlainBundle) (tail : List PlainBundle) : Type 0 where
   pub filled : list_all is_filled tail ≡ true
-  pub room : (b : Slots) → spares_guard b flow.first.guard ≡ true → has_room b tail ≡ true
+  pub room : (b : PlainBundle) → spares_guard b flow.first.guard ≡ true → has_room b tail ≡ true
 
-flow_alone : (flow slot other : Slots) (slots : List Slots) → is_flow flow.first.op ≡ true
+flow_alone : (flow slot other : PlainBundle) (slots : List PlainBundle) → is_flow flow.first.op ≡ true
     → is_legal flow.first flow.second ≡ true → list_all is_idle (slot ∷ other ∷ slots) ≡ true
     → FlowAlone flow (freed (flow ∷ slot ∷ other ∷ slots))
 flow_alone flow slot other slots flows legal idles = so flow.second refl legal
   where
-    last : Slots
+    last : PlainBundle
     last = last_or slot (other ∷ slots)
 
     parts : (list_all is_idle (but_last slot (other ∷ slots)) ≡ true) × (is_idle last ≡ true)
     parts = all_but_last is_idle slot (other ∷ slots) idles
 
-    lets : (b t : Slots) → t.first ≡ flow.first → is_none t.second ≡ true → spares_guard b flow.first.guard ≡ true
+    lets : (b t : PlainBundle) → t.first ≡ flow.first → is_none t.second ≡ true → spares_guard b flow.first.guard ≡ true
         → lets_pass t b ≡ true
     lets b t same alone spares =
         and_from (is_flow t.first.op) (is_none t.second && spares_guard b t.first.guard)
@@ -459,7 +465,7 @@ flow_alone flow slot other slots flows legal idles = so flow.second refl legal
         (ap (λ i. spares_guard b i.guard) same ∙ spares))
 
     so : (o : Option Instr) → flow.second ≡ o → is_legal flow.first o ≡ true
-        → FlowAlone flow (elim o as (λ _. List Slots) [
+        → FlowAlone flow (elim o as (λ _. List PlainBundle) [
           | None ↦ flow ∷ slot ∷ other
               ∷ slots
           | Some i ↦ if can_leave flow i last then lone flow.first ∷ lone i
@@ -484,18 +490,19 @@ flow_alone flow slot other slots flows legal idles = so flow.second refl legal
         })
 
 -- of the tail of a call or a return
-way_alone : (is_it : Op → Bool) → ((op : Op) → is_it op ≡ true → is_flow op ≡ true) → (tail : List Slots)
+way_alone : (is_it : Op → Bool) → ((op : Op) → is_it op ≡ true → is_flow op ≡ true) → (tail : List PlainBundle)
     → is_way is_it tail ≡ true → way_idles tail ≡ true → has_legal_flow tail ≡ true
-    → (list_all is_filled (freed tail) ≡ true) × ((b : Slots) → has_room b (freed tail) ≡ true)
+    → (list_all is_filled (freed tail) ≡ true) × ((b : PlainBundle) → has_room b (freed tail) ≡ true)
 way_alone is_it flows [] h idles legal = absurd (true≢false (sym h))
 way_alone is_it flows (t ∷ slots) h idles legal =
     let one = and_parts (is_it t.first.op) (is_always t.first.guard && are_delay_slots 3 slots) h in
     let two = and_parts (is_always t.first.guard) (are_delay_slots 3 slots) one.1 in
     so slots idles two.1 (flows t.first.op one.0) two.0
   where
-    so : (slots : List Slots) → list_all is_idle slots ≡ true → are_delay_slots 3 slots ≡ true → is_flow t.first.op
+    so : (slots : List PlainBundle) → list_all is_idle slots ≡ true → are_delay_slots 3 slots ≡ true
+        → is_flow t.first.op
         ≡ true → is_always t.first.guard ≡ true
-        → (list_all is_filled (freed (t ∷ slots)) ≡ true) × ((b : Slots) → has_room b (freed (t ∷ slots)) ≡ true)
+        → (list_all is_filled (freed (t ∷ slots)) ≡ true) × ((b : PlainBundle) → has_room b (freed (t ∷ slots)) ≡ true)
     so [] idles three flow always = absurd (true≢false (sym three))
     so (slot ∷ []) idles three flow always = absurd (true≢false (sym three))
     so (slot ∷ other ∷ more) idles three flow always =
@@ -503,7 +510,7 @@ way_alone is_it flows (t ∷ slots) h idles legal =
         (alone.filled, λ b. alone.room b (or_first (is_always t.first.guard) _ always))
 
 -- of a branch
-iteration_alone : (tail : List Slots) → is_iteration tail ≡ true → iteration_idles tail ≡ true
+iteration_alone : (tail : List PlainBundle) → is_iteration tail ≡ true → iteration_idles tail ≡ true
     → has_legal_flow (from_branch tail) ≡ true → list_all is_filled (freed (from_branch tail)) ≡ true
 iteration_alone [] h idles legal = refl
 iteration_alone (t ∷ slots) h idles legal =
@@ -519,7 +526,8 @@ iteration_alone (t ∷ slots) h idles legal =
           (is_iteration slots) iteration).1 idles legal
     ] refl h idles legal
   where
-    so : (slots : List Slots) → list_all is_idle slots ≡ true → are_delay_slots 2 slots ≡ true → is_flow t.first.op
+    so : (slots : List PlainBundle) → list_all is_idle slots ≡ true → are_delay_slots 2 slots ≡ true
+        → is_flow t.first.op
         ≡ true → is_legal t.first t.second ≡ true → list_all is_filled (freed (t ∷ slots)) ≡ true
     so [] idles two flow legal = absurd (true≢false (sym two))
     so (slot ∷ []) idles two flow legal = absurd (true≢false (sym two))
@@ -541,7 +549,7 @@ then_packed : (p : PlainPart) (rest : PlainParts) → part_packed p ≡ true →
 then_packed p rest hp follows h = and_from (part_packed p) (can_follow p rest && parts_packed rest) hp
     (and_from (can_follow p rest) (parts_packed rest) follows h)
 
-iteration_filled : (held tail : List Slots) → list_all is_filled (freed (from_branch tail)) ≡ true
+iteration_filled : (held tail : List PlainBundle) → list_all is_filled (freed (from_branch tail)) ≡ true
     → list_all is_filled (spaced (iteration_packed held tail)) ≡ true
 iteration_filled held tail filled =
     let back = from_branch tail in
@@ -552,12 +560,12 @@ iteration_filled held tail filled =
     (all_append is_filled (kept p back) (way p back) (all_kept is_filled MOST_SLOTS p (freed back) front)
     (all_way is_filled MOST_SLOTS p (freed back) front filled))
 
-way_filled : (bs tail : List Slots) → list_all is_good bs ≡ true → list_all is_filled (freed tail) ≡ true
+way_filled : (bs tail : List PlainBundle) → list_all is_good bs ≡ true → list_all is_filled (freed tail) ≡ true
     → list_all is_filled (spaced (way bs tail)) ≡ true
 way_filled bs tail good filled = filled_spaced (way bs tail) (all_way is_filled MOST_SLOTS bs (freed tail)
     (all_weaker is_good is_filled good_fills bs good) filled)
 
-pub merged_packed : (held : List Slots) (ps : PlainParts) → are_calm held ≡ true → parts_shaped ps ≡ true
+pub merged_packed : (held : List PlainBundle) (ps : PlainParts) → are_calm held ≡ true → parts_shaped ps ≡ true
     → parts_idle ps ≡ true → parts_legal ps ≡ true → parts_packed (parts_placed (parts_merged held ps)) ≡ true
 merged_packed held no_part calm shaped idles legal = refl
 merged_packed held (part (straight bs) rest) calm shaped idles legal =

@@ -2,7 +2,7 @@
 -- done, it has no more words than there was room for, and no bundle is lost.
 use Rattle.std.proofs.Common.{◌≡◌, ℕ, ◌≤◌, Bool, true, true≢false, if◌then◌else◌, Some, length, slice_index_or, refl, sym, ap, ◌∙◌, arith}
 use Rattle.std.proofs.lemmas.List.{length-map}
-use Rattle.patmos_instr.specs.Bundles.{Slots}
+use Rattle.patmos_instr.specs.Bundles.{PlainBundle}
 use Rattle.patmos_instr.specs.Instructions.{is_second_kind}
 use Rattle.patmos_instr.specs.declared.instructions.Instr.{Instr}
 use Rattle.patmos_instr.specs.declared.instructions.Op.{Op}
@@ -60,9 +60,10 @@ room_as s t told k =
 
 -- what holds of each scheduled bundle holds of each before, where it holds of bundles that do nothing, of two bundles
 -- that can be one where it holds of that one, and of a bundle where it holds of each of its instructions alone
-pub none_lost : (holds : Slots → Bool) (dropped : (b : Slots) → is_idle b ≡ true → holds b ≡ true)
-    (paired : (a b : Slots) → can_join a b ≡ true → holds (pair a b) ≡ true → (holds a ≡ true) × (holds b ≡ true))
-    (apart : (b : Slots) (i : Instr) → b.second ≡ Some i → holds (lone b.first) ≡ true → holds (lone i) ≡ true → holds b
+pub none_lost : (holds : PlainBundle → Bool) (dropped : (b : PlainBundle) → is_idle b ≡ true → holds b ≡ true)
+    (paired : (a b : PlainBundle) → can_join a b ≡ true → holds (pair a b) ≡ true → (holds a ≡ true) × (holds b ≡ true))
+    (apart : (b : PlainBundle) (i : Instr) → b.second ≡ Some i → holds (lone b.first) ≡ true → holds (lone i)
+    ≡ true → holds b
     ≡ true) (s : PlainShape) (k : ℕ)
     → parts_all holds (slice_index_or (scheduled s).functions k no_part) ≡ true
     → parts_all holds (slice_index_or s.functions k no_part) ≡ true
@@ -76,13 +77,14 @@ second_word : (op : Op) → is_second_kind op ≡ true → is_word_op op ≡ tru
 second_word (AluLong func rd ra constant) kind = absurd (true≢false (sym kind))
 second_word _ kind = refl
 
-pub word_dropped : (b : Slots) → is_idle b ≡ true → has_word b ≡ true
+pub word_dropped : (b : PlainBundle) → is_idle b ≡ true → has_word b ≡ true
 word_dropped b is = ap has_word (idle_is b is)
 
-pub word_paired : (a b : Slots) → can_join a b ≡ true → has_word (pair a b) ≡ true → (has_word a ≡ true)
+pub word_paired : (a b : PlainBundle) → can_join a b ≡ true → has_word (pair a b) ≡ true → (has_word a ≡ true)
     × (has_word b ≡ true)
 word_paired a b can h = (h, second_word b.first.op (pairs a b can).kind)
 
-pub word_apart : (b : Slots) (i : Instr) → b.second ≡ Some i → has_word (lone b.first) ≡ true → has_word (lone i) ≡ true
+pub word_apart : (b : PlainBundle) (i : Instr) → b.second ≡ Some i → has_word (lone b.first) ≡ true
+    → has_word (lone i) ≡ true
     → has_word b ≡ true
 word_apart b i is first second = first

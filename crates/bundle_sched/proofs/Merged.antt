@@ -4,7 +4,7 @@ use Rattle.std.specs.Prelude.{◌&&◌, ◌||◌, is_some}
 use Rattle.std.specs.List.{list_all}
 use Rattle.std.proofs.lemmas.Bool.{and_parts, and_from}
 use Rattle.std.proofs.lemmas.List.Folds.{list_all-append}
-use Rattle.patmos_instr.specs.Bundles.{Slots}
+use Rattle.patmos_instr.specs.Bundles.{PlainBundle}
 use Rattle.patmos_instr.specs.Instructions.{is_long, is_second_kind}
 use Rattle.patmos_instr.specs.declared.instructions.Instr.{Instr}
 use Rattle.patmos_instr.specs.declared.instructions.Op.{Op}
@@ -25,8 +25,8 @@ use Rattle.bundle_sched.proofs.TwoInOne.{pairs}
 
 -- ---- what holds of each bundle holds of each packed one, where it holds of one that two become
 
-module _ (holds : Slots → Bool) (alone : (b : Slots) → holds b ≡ true → holds (lone b.first) ≡ true)
-    (closed : (a b : Slots) → is_idle b ≡ false → can_join a b ≡ true → holds a ≡ true → holds b ≡ true
+module _ (holds : PlainBundle → Bool) (alone : (b : PlainBundle) → holds b ≡ true → holds (lone b.first) ≡ true)
+    (closed : (a b : PlainBundle) → is_idle b ≡ false → can_join a b ≡ true → holds a ≡ true → holds b ≡ true
     → holds (pair a b) ≡ true) where
   pub all_steps : AtEachStep (λ xs ys. list_all holds xs ≡ true → list_all holds ys ≡ true)
   all_steps = record {
@@ -49,15 +49,16 @@ module _ (holds : Slots → Bool) (alone : (b : Slots) → holds b ≡ true → 
         and_from (holds x) (holds b && list_all holds bs) two.0 (and_from (holds b) (list_all holds bs) one.0 two.1);
   }
 
-  pub all_packed : (bs : List Slots) → list_all holds bs ≡ true → list_all holds (packed bs) ≡ true
+  pub all_packed : (bs : List PlainBundle) → list_all holds bs ≡ true → list_all holds (packed bs) ≡ true
   all_packed bs = packed_steps (λ xs ys. list_all holds xs ≡ true → list_all holds ys ≡ true) all_steps bs
 
-  pub all_arranged : (held front back : List Slots) → list_all holds held ≡ true → list_all holds front ≡ true
+  pub all_arranged : (held front back : List PlainBundle) → list_all holds held ≡ true → list_all holds front ≡ true
       → list_all holds (packed (arranged held front back)) ≡ true
   all_arranged held front back hh hf = arranged_steps (λ xs ys. list_all holds xs ≡ true → list_all holds ys ≡ true)
       all_steps held front back (all_append holds held front hh hf)
 
-pub all_but_last : (holds : Slots → Bool) (b : Slots) (bs : List Slots) → list_all holds (b ∷ bs) ≡ true
+pub all_but_last : (holds : PlainBundle → Bool) (b : PlainBundle) (bs : List PlainBundle)
+    → list_all holds (b ∷ bs) ≡ true
     → (list_all holds (but_last b bs) ≡ true) × (holds (last_or b bs) ≡ true)
 all_but_last holds b [] h = (refl, (and_parts (holds b) true h).0)
 all_but_last holds b (c ∷ cs) h =
@@ -65,14 +66,15 @@ all_but_last holds b (c ∷ cs) h =
     let others = all_but_last holds c cs both.1 in
     (and_from (holds b) (list_all holds (but_last c cs)) both.0 others.0, others.1)
 
-kept_all : (holds : Slots → Bool) (bs tail : List Slots) → list_all holds bs ≡ true
+kept_all : (holds : PlainBundle → Bool) (bs tail : List PlainBundle) → list_all holds bs ≡ true
     → list_all holds (kept_by_one bs tail) ≡ true
 kept_all holds [] tail h = refl
 kept_all holds (b ∷ bs) tail h =
     elim (goes_down (b ∷ bs) tail) as (λ down. list_all holds (if down then but_last b bs else b ∷ bs) ≡ true)
     [ true ↦ (all_but_last holds b bs h).0 | false ↦ h ]
 
-all_filled : (holds : Slots → Bool) (b : Slots) (tail : List Slots) → holds b ≡ true → list_all holds tail ≡ true
+all_filled : (holds : PlainBundle → Bool) (b : PlainBundle) (tail : List PlainBundle) → holds b ≡ true
+    → list_all holds tail ≡ true
     → list_all holds (filled b tail) ≡ true
 all_filled holds b [] hb h = h
 all_filled holds b (t ∷ []) hb h = h
@@ -81,28 +83,30 @@ all_filled holds b (t ∷ slot ∷ slots) hb h =
     and_from (holds t) (holds b && list_all holds (but_last slot slots)) both.0
     (and_from (holds b) (list_all holds (but_last slot slots)) hb (all_but_last holds slot slots both.1).0)
 
-way_all : (holds : Slots → Bool) (bs tail : List Slots) → list_all holds bs ≡ true → list_all holds tail ≡ true
+way_all : (holds : PlainBundle → Bool) (bs tail : List PlainBundle) → list_all holds bs ≡ true
+    → list_all holds tail ≡ true
     → list_all holds (way_by_one bs tail) ≡ true
 way_all holds [] tail hb h = h
 way_all holds (b ∷ bs) tail hb h =
     elim (goes_down (b ∷ bs) tail) as (λ down. list_all holds (if down then filled (last_or b bs) tail else tail)
     ≡ true) [ true ↦ all_filled holds (last_or b bs) tail (all_but_last holds b bs hb).1 h | false ↦ h ]
 
-pub all_kept : (holds : Slots → Bool) (n : ℕ) (bs tail : List Slots) → list_all holds bs ≡ true
+pub all_kept : (holds : PlainBundle → Bool) (n : ℕ) (bs tail : List PlainBundle) → list_all holds bs ≡ true
     → list_all holds (kept_after n bs tail) ≡ true
 all_kept holds zero bs tail h = h
 all_kept holds (suc n) bs tail h =
     all_kept holds n (kept_by_one bs tail) (way_by_one bs tail) (kept_all holds bs tail h)
 
-pub all_way : (holds : Slots → Bool) (n : ℕ) (bs tail : List Slots) → list_all holds bs ≡ true → list_all holds tail
+pub all_way : (holds : PlainBundle → Bool) (n : ℕ) (bs tail : List PlainBundle) → list_all holds bs ≡ true
+    → list_all holds tail
     ≡ true → list_all holds (way_after n bs tail) ≡ true
 all_way holds zero bs tail hb h = h
 all_way holds (suc n) bs tail hb h =
     all_way holds n (kept_by_one bs tail) (way_by_one bs tail) (kept_all holds bs tail hb) (way_all holds bs tail hb h)
 
 -- of the tail with its flow alone
-pub all_freed : (holds : Slots → Bool) → ((b : Slots) → holds b ≡ true → holds (lone b.first) ≡ true)
-    → ((i : Instr) → is_second_kind i.op ≡ true → holds (lone i) ≡ true) → (tail : List Slots)
+pub all_freed : (holds : PlainBundle → Bool) → ((b : PlainBundle) → holds b ≡ true → holds (lone b.first) ≡ true)
+    → ((i : Instr) → is_second_kind i.op ≡ true → holds (lone i) ≡ true) → (tail : List PlainBundle)
     → list_all holds tail ≡ true → list_all holds (freed tail) ≡ true
 all_freed holds alone second =
     freed_as (λ xs tail. list_all holds tail ≡ true → list_all holds xs ≡ true) (λ tail h. h)
@@ -112,22 +116,22 @@ all_freed holds alone second =
     (list_all holds (slot ∷ slots)) (alone flow both.0) both.1))
 
 -- of the two pieces of a loop's tail
-pub all_split : (holds : Slots → Bool) (tail : List Slots) → list_all holds tail ≡ true
+pub all_split : (holds : PlainBundle → Bool) (tail : List PlainBundle) → list_all holds tail ≡ true
     → (list_all holds (before_branch tail) ≡ true) × (list_all holds (from_branch tail) ≡ true)
 all_split holds tail h =
     and_parts (list_all holds (before_branch tail)) (list_all holds (from_branch tail))
     (sym (list_all-append holds (before_branch tail) (from_branch tail)) ∙ ap (list_all holds) (tail_split tail) ∙ h)
 
-pub all_straights : (holds : Slots → Bool) (bs : List Slots) (rest : PlainParts) → list_all holds bs ≡ true
+pub all_straights : (holds : PlainBundle → Bool) (bs : List PlainBundle) (rest : PlainParts) → list_all holds bs ≡ true
     → parts_all holds rest ≡ true → parts_all holds (straights bs rest) ≡ true
 all_straights holds [] rest hb h = h
 all_straights holds (b ∷ bs) rest hb h = and_from (list_all holds (b ∷ bs)) (parts_all holds rest) hb h
 
-module _ (holds : Slots → Bool) (alone : (b : Slots) → holds b ≡ true → holds (lone b.first) ≡ true)
+module _ (holds : PlainBundle → Bool) (alone : (b : PlainBundle) → holds b ≡ true → holds (lone b.first) ≡ true)
     (second : (i : Instr) → is_second_kind i.op ≡ true → holds (lone i) ≡ true)
-    (closed : (a b : Slots) → is_idle b ≡ false → can_join a b ≡ true → holds a ≡ true → holds b ≡ true
+    (closed : (a b : PlainBundle) → is_idle b ≡ false → can_join a b ≡ true → holds a ≡ true → holds b ≡ true
     → holds (pair a b) ≡ true) where
-  all_iteration : (before tail : List Slots) → list_all holds before ≡ true → list_all holds tail ≡ true
+  all_iteration : (before tail : List PlainBundle) → list_all holds before ≡ true → list_all holds tail ≡ true
       → list_all holds (iteration_packed before tail) ≡ true
   all_iteration before tail hb h =
       let back = from_branch tail in
@@ -137,7 +141,7 @@ module _ (holds : Slots → Bool) (alone : (b : Slots) → holds b ≡ true → 
       all_append holds (kept p back) (way p back) (all_kept holds MOST_SLOTS p (freed back) front)
       (all_way holds MOST_SLOTS p (freed back) front (all_freed holds alone second back own.1))
 
-  pub all_merged : (held : List Slots) (ps : PlainParts) → list_all holds held ≡ true → parts_all holds ps ≡ true
+  pub all_merged : (held : List PlainBundle) (ps : PlainParts) → list_all holds held ≡ true → parts_all holds ps ≡ true
       → parts_all holds (parts_merged held ps) ≡ true
   all_merged held no_part hh h = refl
   all_merged held (part (straight bs) rest) hh h =
@@ -187,16 +191,16 @@ module _ (holds : Slots → Bool) (alone : (b : Slots) → holds b ≡ true → 
 
 -- ---- room
 
-words_some : (b : Slots) → 1 ≤ bundle_words b
+words_some : (b : PlainBundle) → 1 ≤ bundle_words b
 words_some b = elim (is_long b.first.op || is_some b.second) as (λ two. 1 ≤ (if two then 2 else 1))
     [ true ↦ omega arith | false ↦ omega arith ]
 
-pair_room : (a b : Slots) → can_join a b ≡ true → bundle_room (pair a b) ≤ bundle_room a + bundle_room b
+pair_room : (a b : PlainBundle) → can_join a b ≡ true → bundle_room (pair a b) ≤ bundle_room a + bundle_room b
 pair_room a b h =
     let two : bundle_words (pair a b) ≡ 2 = ap (λ long. if long || true then 2 else 1) (pairs a b h).first_short in
     omega (arith, two, words_some a, words_some b)
 
-lone_room : (b : Slots) → bundle_room (lone b.first) ≤ bundle_room b
+lone_room : (b : PlainBundle) → bundle_room (lone b.first) ≤ bundle_room b
 lone_room b = let less = so (is_long b.first.op) b.second in omega (arith, less)
   where
     so : (long : Bool) (o : Option Instr) → (if long || false then 2 else 1) ≤ (if long || is_some o then 2 else 1)
@@ -204,7 +208,7 @@ lone_room b = let less = so (is_long b.first.op) b.second in omega (arith, less)
     so false None = omega arith
     so false (Some i) = omega arith
 
-nop_room : (b : Slots) → bundle_room (without_nop b) ≤ bundle_room b
+nop_room : (b : PlainBundle) → bundle_room (without_nop b) ≤ bundle_room b
 nop_room = without_nop_as (λ c b. bundle_room c ≤ bundle_room b) (λ b. omega arith) (λ b i is nop. lone_room b)
 
 room_steps : AtEachStep (λ xs ys. bundles_room ys ≤ bundles_room xs)
@@ -218,24 +222,26 @@ room_steps = record {
   swapped = λ b x bs by. omega arith;
 }
 
-pub packed_room : (bs : List Slots) → bundles_room (packed bs) ≤ bundles_room bs
+pub packed_room : (bs : List PlainBundle) → bundles_room (packed bs) ≤ bundles_room bs
 packed_room bs = packed_steps (λ xs ys. bundles_room ys ≤ bundles_room xs) room_steps bs
 
-arranged_room : (held front back : List Slots) → bundles_room (packed (arranged held front back))
+arranged_room : (held front back : List PlainBundle) → bundles_room (packed (arranged held front back))
     ≤ bundles_room (held ++ front)
 arranged_room held front back = arranged_steps (λ xs ys. bundles_room ys ≤ bundles_room xs) room_steps held front back
 
-room_split : (b : Slots) (bs : List Slots) → bundles_room (but_last b bs) + bundle_room (last_or b bs) ≡ bundle_room b
+room_split : (b : PlainBundle) (bs : List PlainBundle) → bundles_room (but_last b bs) + bundle_room (last_or b bs)
+    ≡ bundle_room b
     + bundles_room bs
 room_split b [] = omega arith
 room_split b (c ∷ cs) = let others = room_split c cs in omega (arith, others)
 
-filled_room : (b : Slots) (tail : List Slots) → bundles_room (filled b tail) ≤ bundle_room b + bundles_room tail
+filled_room : (b : PlainBundle) (tail : List PlainBundle) → bundles_room (filled b tail) ≤ bundle_room b
+    + bundles_room tail
 filled_room b [] = omega arith
 filled_room b (t ∷ []) = omega arith
 filled_room b (t ∷ slot ∷ slots) = let fewer = room_split slot slots in omega (arith, fewer)
 
-one_room : (bs tail : List Slots) → bundles_room (kept_by_one bs tail) + bundles_room (way_by_one bs tail)
+one_room : (bs tail : List PlainBundle) → bundles_room (kept_by_one bs tail) + bundles_room (way_by_one bs tail)
     ≤ bundles_room bs + bundles_room tail
 one_room [] tail = omega arith
 one_room (b ∷ bs) tail =
@@ -246,7 +252,8 @@ one_room (b ∷ bs) tail =
       | false ↦ omega arith
     ]
 
-way_room : (n : ℕ) (bs tail : List Slots) → bundles_room (kept_after n bs tail) + bundles_room (way_after n bs tail)
+way_room : (n : ℕ) (bs tail : List PlainBundle) → bundles_room (kept_after n bs tail)
+    + bundles_room (way_after n bs tail)
     ≤ bundles_room bs + bundles_room tail
 way_room zero bs tail = omega arith
 way_room (suc n) bs tail = let one = one_room bs tail in let others = way_room n (kept_by_one bs tail)
@@ -265,7 +272,7 @@ second_room i kind = so i.op kind
     so (Comb func pd a b) h = refl
     so _ h = absurd (true≢false (sym h))
 
-freed_room : (tail : List Slots) → bundles_room (freed tail) ≤ bundles_room tail
+freed_room : (tail : List PlainBundle) → bundles_room (freed tail) ≤ bundles_room tail
 freed_room =
     freed_as (λ xs tail. bundles_room xs ≤ bundles_room tail) (λ tail. omega arith)
     (λ flow slot slots i out.
@@ -276,17 +283,17 @@ freed_room =
     omega (arith, one, two, last, fewer))
 
 -- with bundles in all delay slots
-slots_room : (bs tail : List Slots) → bundles_room (kept bs tail) + bundles_room (way bs tail) ≤ bundles_room bs
+slots_room : (bs tail : List PlainBundle) → bundles_room (kept bs tail) + bundles_room (way bs tail) ≤ bundles_room bs
     + bundles_room tail
 slots_room bs tail =
     let front = way_room MOST_SLOTS bs (freed tail) in let back = freed_room tail in omega (arith, front, back)
 
-straights_room : (bs : List Slots) (rest : PlainParts) → parts_room (straights bs rest) ≡ bundles_room bs
+straights_room : (bs : List PlainBundle) (rest : PlainParts) → parts_room (straights bs rest) ≡ bundles_room bs
     + parts_room rest
 straights_room [] rest = omega arith
 straights_room (b ∷ bs) rest = refl
 
-iteration_room : (before tail : List Slots) → bundles_room (iteration_packed before tail) ≤ bundles_room before
+iteration_room : (before tail : List PlainBundle) → bundles_room (iteration_packed before tail) ≤ bundles_room before
     + bundles_room tail
 iteration_room before tail =
     let front = before_branch tail in
@@ -302,7 +309,7 @@ iteration_room before tail =
       ap bundles_room (tail_split tail),
     )
 
-merged_room : (held : List Slots) (ps : PlainParts) → parts_room (parts_merged held ps)
+merged_room : (held : List PlainBundle) (ps : PlainParts) → parts_room (parts_merged held ps)
     + bundles_room (left_over held ps) ≤ bundles_room held + parts_room ps
 merged_room held no_part = omega arith
 merged_room held (part (straight bs) rest) =

@@ -4,7 +4,7 @@ use Rattle.std.specs.Prelude.{◌&&◌}
 use Rattle.std.specs.List.{list_all}
 use Rattle.std.proofs.lemmas.Bool.{and_parts, and_from}
 use Rattle.std.proofs.lemmas.List.Folds.{list_all-append}
-use Rattle.patmos_instr.specs.Bundles.{Slots}
+use Rattle.patmos_instr.specs.Bundles.{PlainBundle}
 use Rattle.patmos_instr.specs.declared.instructions.Instr.{Instr}
 use Rattle.sp_shape.specs.Bundles.{is_idle, part_all, parts_all}
 use Rattle.sp_shape.specs.Parts.{straight, repeats, calls_to, leaves, PlainParts, no_part, part, joined}
@@ -19,10 +19,11 @@ use Rattle.bundle_sched.proofs.EachStep.{AtEachStep, packed_steps, arranged_step
 -- it holds of what does nothing, of two bundles where it holds of the one that they become, and of a bundle where it
 -- holds
 -- of each of its instructions alone
-module _ (holds : Slots → Bool) (dropped : (b : Slots) → is_idle b ≡ true → holds b ≡ true)
-    (apart : (b : Slots) (i : Instr) → b.second ≡ Some i → holds (lone b.first) ≡ true → holds (lone i) ≡ true
+module _ (holds : PlainBundle → Bool) (dropped : (b : PlainBundle) → is_idle b ≡ true → holds b ≡ true)
+    (apart : (b : PlainBundle) (i : Instr) → b.second ≡ Some i → holds (lone b.first) ≡ true → holds (lone i) ≡ true
     → holds b ≡ true)
-    (split : (a b : Slots) → can_join a b ≡ true → holds (pair a b) ≡ true → (holds a ≡ true) × (holds b ≡ true)) where
+    (split : (a b : PlainBundle) → can_join a b ≡ true → holds (pair a b) ≡ true → (holds a ≡ true)
+    × (holds b ≡ true)) where
   had_steps : AtEachStep (λ xs ys. list_all holds ys ≡ true → list_all holds xs ≡ true)
   had_steps = record {
     same = λ bs h. h;
@@ -44,22 +45,23 @@ module _ (holds : Slots → Bool) (dropped : (b : Slots) → is_idle b ≡ true 
         and_from (holds b) (holds x && list_all holds bs) two.0 (and_from (holds x) (list_all holds bs) one.0 two.1);
   }
 
-  packed_had : (bs : List Slots) → list_all holds (packed bs) ≡ true → list_all holds bs ≡ true
+  packed_had : (bs : List PlainBundle) → list_all holds (packed bs) ≡ true → list_all holds bs ≡ true
   packed_had bs = packed_steps (λ xs ys. list_all holds ys ≡ true → list_all holds xs ≡ true) had_steps bs
 
-  arranged_had : (held front back : List Slots) → list_all holds (packed (arranged held front back)) ≡ true
+  arranged_had : (held front back : List PlainBundle) → list_all holds (packed (arranged held front back)) ≡ true
       → list_all holds (held ++ front) ≡ true
   arranged_had held front back =
       arranged_steps (λ xs ys. list_all holds ys ≡ true → list_all holds xs ≡ true) had_steps held front back
 
-  front_had : (b : Slots) (bs : List Slots) → list_all holds (but_last b bs) ≡ true → holds (last_or b bs) ≡ true
+  front_had : (b : PlainBundle) (bs : List PlainBundle) → list_all holds (but_last b bs) ≡ true
+      → holds (last_or b bs) ≡ true
       → list_all holds (b ∷ bs) ≡ true
   front_had b [] h last = and_from (holds b) true last refl
   front_had b (c ∷ cs) h last =
       let both = and_parts (holds b) (list_all holds (but_last c cs)) h in
       and_from (holds b) (list_all holds (c ∷ cs)) both.0 (front_had c cs both.1 last)
 
-  freed_had : (tail : List Slots) → list_all holds (freed tail) ≡ true → list_all holds tail ≡ true
+  freed_had : (tail : List PlainBundle) → list_all holds (freed tail) ≡ true → list_all holds tail ≡ true
   freed_had =
       freed_as (λ xs tail. list_all holds xs ≡ true → list_all holds tail ≡ true) (λ tail h. h)
       (λ flow slot slots i out h.
@@ -68,7 +70,8 @@ module _ (holds : Slots → Bool) (dropped : (b : Slots) → is_idle b ≡ true 
       and_from (holds flow) (list_all holds (slot ∷ slots)) (apart flow i out.beside one.0 two.0)
       (front_had slot slots two.1 (dropped (last_or slot slots) out.idles)))
 
-  filled_had : (b : Slots) (tail : List Slots) → has_room b tail ≡ true → list_all holds (filled b tail) ≡ true
+  filled_had : (b : PlainBundle) (tail : List PlainBundle) → has_room b tail ≡ true → list_all holds (filled b tail)
+      ≡ true
       → (holds b ≡ true) × (list_all holds tail ≡ true)
   filled_had b [] room h = absurd (true≢false (sym room))
   filled_had b (t ∷ []) room h = absurd (true≢false (sym room))
@@ -81,7 +84,8 @@ module _ (holds : Slots → Bool) (dropped : (b : Slots) → is_idle b ≡ true 
             (front_had slot slots two.1 (dropped (last_or slot slots) idles)),
       )
 
-  one_had : (bs tail : List Slots) → list_all holds (kept_by_one bs tail) ≡ true → list_all holds (way_by_one bs tail)
+  one_had : (bs tail : List PlainBundle) → list_all holds (kept_by_one bs tail) ≡ true
+      → list_all holds (way_by_one bs tail)
       ≡ true → (list_all holds bs ≡ true) × (list_all holds tail ≡ true)
   one_had [] tail hk hw = (refl, hw)
   one_had (b ∷ bs) tail hk hw =
@@ -96,17 +100,17 @@ module _ (holds : Slots → Bool) (dropped : (b : Slots) → is_idle b ≡ true 
         | false ↦ λ is hk hw. (hk, hw)
       ] refl hk hw
 
-  way_had : (n : ℕ) (bs tail : List Slots) → list_all holds (kept_after n bs tail) ≡ true
+  way_had : (n : ℕ) (bs tail : List PlainBundle) → list_all holds (kept_after n bs tail) ≡ true
       → list_all holds (way_after n bs tail) ≡ true → (list_all holds bs ≡ true) × (list_all holds tail ≡ true)
   way_had zero bs tail hk hw = (hk, hw)
   way_had (suc n) bs tail hk hw =
       let had = way_had n (kept_by_one bs tail) (way_by_one bs tail) hk hw in one_had bs tail had.0 had.1
 
-  slots_had : (bs tail : List Slots) → list_all holds (kept bs tail) ≡ true → list_all holds (way bs tail) ≡ true
+  slots_had : (bs tail : List PlainBundle) → list_all holds (kept bs tail) ≡ true → list_all holds (way bs tail) ≡ true
       → (list_all holds bs ≡ true) × (list_all holds tail ≡ true)
   slots_had bs tail hk hw = let had = way_had MOST_SLOTS bs (freed tail) hk hw in (had.0, freed_had tail had.1)
 
-  iteration_had : (before tail : List Slots) → list_all holds (iteration_packed before tail) ≡ true
+  iteration_had : (before tail : List PlainBundle) → list_all holds (iteration_packed before tail) ≡ true
       → (list_all holds before ≡ true) × (list_all holds tail ≡ true)
   iteration_had before tail h =
       let front = before_branch tail in
@@ -122,12 +126,12 @@ module _ (holds : Slots → Bool) (dropped : (b : Slots) → is_idle b ≡ true 
             ∙ and_from (list_all holds front) (list_all holds back) own.1 had.1,
       )
 
-  straights_had : (bs : List Slots) (rest : PlainParts) → parts_all holds (straights bs rest) ≡ true
+  straights_had : (bs : List PlainBundle) (rest : PlainParts) → parts_all holds (straights bs rest) ≡ true
       → (list_all holds bs ≡ true) × (parts_all holds rest ≡ true)
   straights_had [] rest h = (refl, h)
   straights_had (b ∷ bs) rest h = and_parts (list_all holds (b ∷ bs)) (parts_all holds rest) h
 
-  merged_had : (held : List Slots) (ps : PlainParts) → parts_all holds (parts_merged held ps) ≡ true
+  merged_had : (held : List PlainBundle) (ps : PlainParts) → parts_all holds (parts_merged held ps) ≡ true
       → list_all holds (left_over held ps) ≡ true → (list_all holds held ≡ true) × (parts_all holds ps ≡ true)
   merged_had held no_part h end = (end, refl)
   merged_had held (part (straight bs) rest) h end =

@@ -1,6 +1,6 @@
 -- What a bundle leaves that is read late, and what it leaves that is read at once.
 use Rattle.std.proofs.Common.{◌≡◌, ℕ, zero, suc, ◌==◌, Bool, true, false, true≢false, if◌then◌else◌, [], ◌∷◌, refl, sym, ap, ◌∙◌, arith, ne_eqb}
-use Rattle.patmos_instr.specs.Bundles.{Slots}
+use Rattle.patmos_instr.specs.Bundles.{PlainBundle}
 use Rattle.patmos_instr.specs.declared.functions.ImmFunc.TheVariants as imm
 use Rattle.patmos_instr.specs.declared.functions.StackFunc.TheVariants.{Sres, Sens, Sfree}
 use Rattle.patmos_instr.specs.declared.instructions.Instr.{Instr}
@@ -56,7 +56,7 @@ leaves_nothing from true (Store space width ra rs imm) regs m early is =
     (word_in regs rs) m) ∙ is
 leaves_nothing from true _ regs m early is = is
 
-pub early_once : (from : Sources) (b : Slots) (m : Run) → IsWhole m → is_late b.first.op ≡ false → late from b m
+pub early_once : (from : Sources) (b : PlainBundle) (m : Run) → IsWhole m → is_late b.first.op ≡ false → late from b m
     ≡ once from b m
 early_once from b m whole early =
     let nothing = leaves_nothing from (holds m.regs b.first.guard) b.first.op m.regs (behind b m) early refl in
@@ -129,7 +129,7 @@ three v w u regs = with_pending (after_writes (write.Nothing ∷ v ∷ w ∷ u �
 abbrev pub late_write : Sources → Instr → Run → Write
 late_write from i m = came (left_pending from (slot_asked m.regs i) m (slot_begun m.regs i))
 
-pub once_told : (from : Sources) (b : Slots) (m : Run) → IsWhole m
+pub once_told : (from : Sources) (b : PlainBundle) (m : Run) → IsWhole m
     → once from b m ≡ with_regs (effected from (slot_asked m.regs b.first) m) (three
     (slot_write m.st m.ss m.regs b.first) (second_write m.st m.ss m.regs b.second)
     (late_write from b.first m) m.regs)
@@ -158,7 +158,7 @@ late_nothing from i m early = so (holds m.regs i.guard) i.op early
     so true (Mul unsigned ra rb) early = absurd (true≢false early)
     so true _ early = refl
 
-pub early_told : (from : Sources) (b : Slots) (m : Run) → IsWhole m → is_late b.first.op ≡ false
+pub early_told : (from : Sources) (b : PlainBundle) (m : Run) → IsWhole m → is_late b.first.op ≡ false
     → once from b m ≡ with_regs (effected from (slot_asked m.regs b.first) m) (three
     (slot_write m.st m.ss m.regs b.first) (second_write m.st m.ss m.regs b.second) write.Nothing m.regs)
 early_told from b m whole early =

@@ -3,7 +3,7 @@ use Rattle.std.proofs.Common.{ℕ, zero, suc, ◌≡◌, ◌<◌, ◌==◌, Bool
 use Rattle.std.specs.Prelude.{◌&&◌}
 use Rattle.std.proofs.lemmas.Bool.{and_parts, not-true}
 use Rattle.std.proofs.lemmas.List.{length-map}
-use Rattle.patmos_instr.specs.Bundles.{Slots}
+use Rattle.patmos_instr.specs.Bundles.{PlainBundle}
 use Rattle.patmos_instr.specs.declared.functions.StackFunc.TheVariants.{Sres, Sens, Sfree}
 use Rattle.patmos_instr.specs.declared.instructions.Op.{Op}
 use Rattle.patmos_instr.specs.declared.instructions.Op.TheVariants.{Stack, Load, Store, Branch, Call, BranchFill, Return}
@@ -28,7 +28,7 @@ use Rattle.bundle_sched.proofs.SpacedIterations.{chosen}
 
 -- ---- iterations of which some of the body comes with the tail
 
-iterations_alike : (from : Sources) (xs us : List Step) (Inside Late : Run → Type 0) (tail next : List Slots)
+iterations_alike : (from : Sources) (xs us : List Step) (Inside Late : Run → Type 0) (tail next : List PlainBundle)
     → Alike from (xs ++ all_done next) (us ++ all_done tail)
     → ((m : Run) → IsWhole m → (run from xs m).ways ≡ (run from us m).ways)
     → ((m : Run) → IsWhole m → Inside m → Late m)
@@ -66,7 +66,8 @@ calm_asked from true (BranchFill target) regs m calm = absurd (true≢false calm
 calm_asked from true Return regs m calm = absurd (true≢false calm)
 calm_asked from true _ regs m calm = refl
 
-calm_ways : (from : Sources) (bs : List Slots) (m : Run) → are_calm bs ≡ true → (run from (all_done bs) m).ways ≡ m.ways
+calm_ways : (from : Sources) (bs : List PlainBundle) (m : Run) → are_calm bs ≡ true → (run from (all_done bs) m).ways
+    ≡ m.ways
 calm_ways from [] m calm = refl
 calm_ways from (b ∷ bs) m calm =
     let both = and_parts (not (is_flow b.first.op)) (are_calm bs) calm in
@@ -74,7 +75,7 @@ calm_ways from (b ∷ bs) m calm =
     (behind b m) (not-true (is_flow b.first.op) both.0)
 
 -- a bundle that goes into a delay slot asks for no flow
-one_ways : (from : Sources) (bs tail : List Slots) (m : Run) → (run from (all_done (kept_by_one bs tail)) m).ways
+one_ways : (from : Sources) (bs tail : List PlainBundle) (m : Run) → (run from (all_done (kept_by_one bs tail)) m).ways
     ≡ (run from (all_done bs) m).ways
 one_ways from [] tail m = refl
 one_ways from (b ∷ bs) tail m =
@@ -91,7 +92,7 @@ one_ways from (b ∷ bs) tail m =
       | false ↦ λ is. refl
     ] refl
 
-kept_ways : (from : Sources) (n : ℕ) (bs tail : List Slots) (m : Run)
+kept_ways : (from : Sources) (n : ℕ) (bs tail : List PlainBundle) (m : Run)
     → (run from (all_done (kept_after n bs tail)) m).ways ≡ (run from (all_done bs) m).ways
 kept_ways from zero bs tail m = refl
 kept_ways from (suc n) bs tail m =
@@ -99,16 +100,18 @@ kept_ways from (suc n) bs tail m =
 
 module _ (from : Sources) (f g : ℕ → List Step) (Called Late : ℕ → Run → Type 0)
     (each : (k : ℕ) → Alike from (g k) (f k))
-    (called : (k : ℕ) (m : Run) → IsWhole m → Called k m → Late k m) (AtReturn AtNewReturn : List Slots → Run → Type 0)
-    (at_return : (held tail : List Slots) (m : Run) → IsWhole m → AtReturn tail (run from (all_done held) m)
+    (called : (k : ℕ) (m : Run) → IsWhole m → Called k m → Late k m)
+    (AtReturn AtNewReturn : List PlainBundle → Run → Type 0)
+    (at_return : (held tail : List PlainBundle) (m : Run) → IsWhole m → AtReturn tail (run from (all_done held) m)
     → AtNewReturn (way (packed held) tail) (run from (all_done (kept (packed held) tail)) m)) where
-  straights_iteration : (bs : List Slots) (rest : PlainParts) (m : Run) → PartsGo (run from) g Late AtNewReturn rest
+  straights_iteration : (bs : List PlainBundle) (rest : PlainParts) (m : Run)
+      → PartsGo (run from) g Late AtNewReturn rest
       (run from (all_done bs) m) → PartsGo (run from) g Late AtNewReturn (straights bs rest) m
   straights_iteration [] rest m h = h
   straights_iteration (b ∷ bs) rest m h = (tt, h)
 
   -- what runs after straight code and a part begins with the same
-  after_part : (bs held : List Slots) (q p : PlainPart) (rest : PlainParts) (m : Run) → IsWhole m
+  after_part : (bs held : List PlainBundle) (q p : PlainPart) (rest : PlainParts) (m : Run) → IsWhole m
       → Alike from (all_done bs ++ part_trail g q) (all_done held ++ part_trail f p)
       → PartsGo (run from) g Late AtNewReturn rest (run from (part_trail f p) (run from (all_done held) m))
       → PartsGo (run from) g Late AtNewReturn rest (run from (part_trail g q) (run from (all_done bs) m))
@@ -127,7 +130,7 @@ module _ (from : Sources) (f g : ℕ → List Step) (Called Late : ℕ → Run �
       ∙ ap (λ t. t.ways) (sym (run_append from xs (all_done left) m)
       ∙ (merged_alike from f g each [] body).runs m whole)
 
-  pub merged_iteration : (held : List Slots) (ps : PlainParts) (m : Run) → IsWhole m → parts_shaped ps ≡ true
+  pub merged_iteration : (held : List PlainBundle) (ps : PlainParts) (m : Run) → IsWhole m → parts_shaped ps ≡ true
       → PartsGo (run from) f Called AtReturn ps (run from (all_done held) m)
       → PartsGo (run from) g Late AtNewReturn (parts_merged held ps) m
   merged_iteration held no_part m whole shaped h = tt
@@ -188,7 +191,7 @@ module _ (from : Sources) (f g : ℕ → List Step) (Called Late : ℕ → Run �
       )
 
   -- straight code at the end
-  end_iteration : (ps : PlainParts) (bs : List Slots) (m : Run) → PartsGo (run from) g Late AtNewReturn ps m
+  end_iteration : (ps : PlainParts) (bs : List PlainBundle) (m : Run) → PartsGo (run from) g Late AtNewReturn ps m
       → PartsGo (run from) g Late AtNewReturn (joined ps (straights bs no_part)) m
   end_iteration no_part [] m h = tt
   end_iteration no_part (b ∷ bs) m h = (tt, tt)
@@ -205,7 +208,7 @@ abbrev no_steps : ℕ → List Step
 no_steps k = []
 
 -- a return goes where it went
-returns_left : (from : Sources) (back : Back) (held tail : List Slots) (m : Run) → IsWhole m
+returns_left : (from : Sources) (back : Back) (held tail : List PlainBundle) (m : Run) → IsWhole m
     → Returns (run from) tail back (run from (all_done held) m)
     → Returns (run from) (way (packed held) tail) back (run from (all_done (kept (packed held) tail)) m)
 returns_left from back held tail m whole h =
@@ -220,8 +223,8 @@ returns_left from back held tail m whole h =
 
 -- ---- functions and shapes
 
-module _ (from : Sources) (AtReturn AtNewReturn : Run → List Slots → Run → Type 0)
-    (at_return : (begun : Run) (held tail : List Slots) (m : Run) → IsWhole m → AtReturn begun tail (run from
+module _ (from : Sources) (AtReturn AtNewReturn : Run → List PlainBundle → Run → Type 0)
+    (at_return : (begun : Run) (held tail : List PlainBundle) (m : Run) → IsWhole m → AtReturn begun tail (run from
     (all_done held) m) → AtNewReturn begun (way (packed held) tail) (run from
     (all_done (kept (packed held) tail)) m)) where
   functions_go : (fs : List PlainParts) (n k : ℕ) (m : Run) → IsWhole m

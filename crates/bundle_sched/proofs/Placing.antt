@@ -2,7 +2,7 @@
 use Rattle.std.proofs.Common.{◌≡◌, ℕ, ◌+◌, ◌<◌, ◌≤◌, List, [], ◌∷◌, ◌++◌, length, drop, get_or, refl, ap, sym, ◌∙◌, append_assoc, append-nil}
 use Rattle.std.proofs.lemmas.List.{drop_all}
 use Rattle.tc_word.proofs.Items.{drop_item}
-use Rattle.patmos_instr.specs.Bundles.{Slots}
+use Rattle.patmos_instr.specs.Bundles.{PlainBundle}
 use Rattle.sp_shape.proofs.Joins.{shown, joined-assoc, joined-nothing}
 use Rattle.sp_shape.proofs.Plain.{repeat_said}
 use Rattle.sp_shape.specs.Parts.{repeats, PlainParts, part, one, joined}
@@ -13,7 +13,8 @@ use Rattle.bundle_sched.specs.Placed.{one_spaced, spaced, part_placed, parts_pla
 
 -- ---- bundles
 
-pub bundle_added : (bs : List Slots) (i : ℕ) (b : Slots) (done next whole : List Slots) → i < length bs → b
+pub bundle_added : (bs : List PlainBundle) (i : ℕ) (b : PlainBundle) (done next whole : List PlainBundle)
+    → i < length bs → b
     ≡ get_or bs i b
     → done ++ spaced (drop i bs) ≡ whole → next ≡ done ++ one_spaced b (drop (i + 1) bs) → next
     ++ spaced (drop (i + 1) bs) ≡ whole
@@ -22,7 +23,8 @@ bundle_added bs i b done next whole within is before added =
     (drop (i + 1) bs))
     ∙ ap (λ xs. done ++ spaced xs) (sym (drop_item bs i b within is)) ∙ before
 
-pub bundles_done : (bs : List Slots) (i : ℕ) (done whole : List Slots) → length bs ≤ i → done ++ spaced (drop i bs)
+pub bundles_done : (bs : List PlainBundle) (i : ℕ) (done whole : List PlainBundle) → length bs ≤ i → done
+    ++ spaced (drop i bs)
     ≡ whole → done ≡ whole
 bundles_done bs i done whole past before =
     sym (append-nil done) ∙ ap (λ xs. done ++ spaced xs) (sym (drop_all i bs past)) ∙ before
@@ -46,7 +48,8 @@ pub parts_done : (ps : List Part) (i : ℕ) (done whole : PlainParts) → length
 parts_done ps i done whole past before =
     sym (joined-nothing done) ∙ ap (λ xs. joined done (parts_placed (parts_of xs))) (sym (drop_all i ps past)) ∙ before
 
-pub repeat_placed : (p : Part) (count : ℕ) (body done : List Part) (tail : List Slots) → p ≡ Repeat count body tail
+pub repeat_placed : (p : Part) (count : ℕ) (body done : List Part) (tail : List PlainBundle) → p
+    ≡ Repeat count body tail
     → parts_of done ≡ parts_placed (parts_of body)
     → plain_part (Repeat count done (spaced tail)) ≡ part_placed (plain_part p)
 repeat_placed p count body done tail is same =

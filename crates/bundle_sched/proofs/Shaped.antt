@@ -3,7 +3,7 @@ use Rattle.std.proofs.Common.{◌≡◌, ℕ, Bool, true, true≢false, List, []
 use Rattle.std.specs.Prelude.{◌&&◌, nat_lt}
 use Rattle.std.specs.List.{list_all}
 use Rattle.std.proofs.lemmas.Bool.{and_parts, and_from}
-use Rattle.patmos_instr.specs.Bundles.{Slots}
+use Rattle.patmos_instr.specs.Bundles.{PlainBundle}
 use Rattle.sp_shape.specs.Bundles.{parts_all}
 use Rattle.sp_shape.specs.Formed.{is_call, is_return, are_calm, is_iteration, is_way, part_formed, parts_formed, function_formed}
 use Rattle.sp_shape.specs.Parts.{PlainPart, straight, repeats, calls_to, leaves, PlainParts, no_part, part}
@@ -58,7 +58,7 @@ function_is_shaped n (part (calls_to k tail) rest) h =
 
 -- ---- the straight code at the end
 
-pub left_calm : (held : List Slots) (ps : PlainParts) → are_calm held ≡ true → parts_shaped ps ≡ true
+pub left_calm : (held : List PlainBundle) (ps : PlainParts) → are_calm held ≡ true → parts_shaped ps ≡ true
     → are_calm (left_over held ps) ≡ true
 left_calm held no_part hh h = hh
 left_calm held (part (straight bs) rest) hh h = let both = and_parts (are_calm bs) (parts_shaped rest) h in
@@ -70,7 +70,7 @@ left_calm held (part (calls_to k tail) rest) hh h =
 left_calm held (part (leaves tail) rest) hh h =
     left_calm [] rest refl (and_parts (is_way is_return tail) (parts_shaped rest) h).1
 
-pub left_all : (holds : Slots → Bool) (held : List Slots) (ps : PlainParts) → list_all holds held ≡ true
+pub left_all : (holds : PlainBundle → Bool) (held : List PlainBundle) (ps : PlainParts) → list_all holds held ≡ true
     → parts_all holds ps ≡ true → list_all holds (left_over held ps) ≡ true
 left_all holds held no_part hh h = hh
 left_all holds held (part (straight bs) rest) hh h = let both = and_parts (list_all holds bs) (parts_all holds rest)
@@ -83,7 +83,8 @@ left_all holds held (part (leaves tail) rest) hh h =
     left_all holds [] rest refl (and_parts (list_all holds tail) (parts_all holds rest) h).1
 
 -- a function ends with its return: nothing is left over
-function_left : (n : ℕ) (held : List Slots) (ps : PlainParts) → function_formed n ps ≡ true → left_over held ps ≡ []
+function_left : (n : ℕ) (held : List PlainBundle) (ps : PlainParts) → function_formed n ps ≡ true
+    → left_over held ps ≡ []
 function_left n held no_part h = absurd (true≢false (sym h))
 function_left n held (part (straight bs) rest) h =
     function_left n (held ++ bs) rest (and_parts (part_formed n (straight bs)) (function_formed n rest) h).1

@@ -4,7 +4,7 @@ use Rattle.std.proofs.Common.{◌≡◌, ◌+◌, Bool, true, false, if◌then�
 use Rattle.std.specs.Prelude.{not, ◌&&◌}
 use Rattle.std.specs.List.{list_all}
 use Rattle.std.proofs.lemmas.Bool.{and_parts, and_from}
-use Rattle.patmos_instr.specs.Bundles.{Slots}
+use Rattle.patmos_instr.specs.Bundles.{PlainBundle}
 use Rattle.sp_shape.specs.Bundles.{part_all, parts_all}
 use Rattle.sp_shape.specs.Parts.{straight, repeats, calls_to, leaves, PlainPart, PlainParts, no_part, part}
 use Rattle.sp_shape.specs.Small.{idle}
@@ -13,7 +13,7 @@ use Rattle.bundle_sched.specs.Placed.{ignores_both, is_awaited, spaced, part_pla
 
 -- ---- what holds of a bundle that does nothing, and of each bundle, holds of each spaced one
 
-all_spaced : (holds : Slots → Bool) → holds idle ≡ true → (bs : List Slots) → list_all holds bs ≡ true
+all_spaced : (holds : PlainBundle → Bool) → holds idle ≡ true → (bs : List PlainBundle) → list_all holds bs ≡ true
     → list_all holds (spaced bs) ≡ true
 all_spaced holds nothing [] h = refl
 all_spaced holds nothing (b ∷ bs) h =
@@ -26,7 +26,7 @@ all_spaced holds nothing (b ∷ bs) h =
     ]
 
 mutual
-  part_all_placed : (holds : Slots → Bool) → holds idle ≡ true → (p : PlainPart) → part_all holds p ≡ true
+  part_all_placed : (holds : PlainBundle → Bool) → holds idle ≡ true → (p : PlainPart) → part_all holds p ≡ true
       → part_all holds (part_placed p) ≡ true
   part_all_placed holds nothing (straight bs) h = all_spaced holds nothing bs h
   part_all_placed holds nothing (repeats count body tail) h =
@@ -36,7 +36,8 @@ mutual
   part_all_placed holds nothing (calls_to k tail) h = all_spaced holds nothing tail h
   part_all_placed holds nothing (leaves tail) h = all_spaced holds nothing tail h
 
-  pub parts_all_placed : (holds : Slots → Bool) → holds idle ≡ true → (ps : PlainParts) → parts_all holds ps ≡ true
+  pub parts_all_placed : (holds : PlainBundle → Bool) → holds idle ≡ true → (ps : PlainParts)
+      → parts_all holds ps ≡ true
       → parts_all holds (parts_placed ps) ≡ true
   parts_all_placed holds nothing no_part h = refl
   parts_all_placed holds nothing (part p rest) h =
@@ -46,7 +47,7 @@ mutual
 
 -- ---- what holds of each spaced bundle holds of each bundle before
 
-one_spaced_all : (holds : Slots → Bool) (late : Bool) (b : Slots) (spaced_rest rest : List Slots)
+one_spaced_all : (holds : PlainBundle → Bool) (late : Bool) (b : PlainBundle) (spaced_rest rest : List PlainBundle)
     → (list_all holds spaced_rest ≡ true → list_all holds rest ≡ true)
     → list_all holds ((if late then b ∷ idle ∷ [] else b ∷ []) ++ spaced_rest) ≡ true → list_all holds (b ∷ rest) ≡ true
 one_spaced_all holds true b spaced_rest rest others h =
@@ -56,12 +57,13 @@ one_spaced_all holds false b spaced_rest rest others h =
     let x = and_parts (holds b) (list_all holds spaced_rest) h in
     and_from (holds b) (list_all holds rest) x.0 (others x.1)
 
-spaced_all : (holds : Slots → Bool) → (bs : List Slots) → list_all holds (spaced bs) ≡ true → list_all holds bs ≡ true
+spaced_all : (holds : PlainBundle → Bool) → (bs : List PlainBundle) → list_all holds (spaced bs) ≡ true
+    → list_all holds bs ≡ true
 spaced_all holds [] h = refl
 spaced_all holds (b ∷ bs) h = one_spaced_all holds (is_awaited b bs) b (spaced bs) bs (λ x. spaced_all holds bs x) h
 
 mutual
-  part_placed_all : (holds : Slots → Bool) → (p : PlainPart) → part_all holds (part_placed p) ≡ true
+  part_placed_all : (holds : PlainBundle → Bool) → (p : PlainPart) → part_all holds (part_placed p) ≡ true
       → part_all holds p ≡ true
   part_placed_all holds (straight bs) h = spaced_all holds bs h
   part_placed_all holds (repeats count body tail) h =
@@ -71,7 +73,7 @@ mutual
   part_placed_all holds (calls_to k tail) h = spaced_all holds tail h
   part_placed_all holds (leaves tail) h = spaced_all holds tail h
 
-  pub parts_placed_all : (holds : Slots → Bool) → (ps : PlainParts) → parts_all holds (parts_placed ps) ≡ true
+  pub parts_placed_all : (holds : PlainBundle → Bool) → (ps : PlainParts) → parts_all holds (parts_placed ps) ≡ true
       → parts_all holds ps ≡ true
   parts_placed_all holds no_part h = refl
   parts_placed_all holds (part p rest) h =
@@ -82,14 +84,14 @@ mutual
 -- ---- words
 
 -- what is awaited comes late
-pub awaited_late : (b : Slots) (bs : List Slots) → is_awaited b bs ≡ true → is_late b.first.op ≡ true
+pub awaited_late : (b : PlainBundle) (bs : List PlainBundle) → is_awaited b bs ≡ true → is_late b.first.op ≡ true
 awaited_late b [] h = h
 awaited_late b (c ∷ cs) h = (and_parts (is_late b.first.op) (not (ignores_both b.first.op c)) h).0
 
-late_room : (b : Slots) → is_late b.first.op ≡ true → bundle_room b ≡ bundle_words b + 1
+late_room : (b : PlainBundle) → is_late b.first.op ≡ true → bundle_room b ≡ bundle_words b + 1
 late_room b late = ap (λ l. bundle_words b + (if l then 1 else 0)) late
 
-spaced_words : (bs : List Slots) → bundles_words (spaced bs) ≤ bundles_room bs
+spaced_words : (bs : List PlainBundle) → bundles_words (spaced bs) ≤ bundles_room bs
 spaced_words [] = omega arith
 spaced_words (b ∷ bs) =
     let others = spaced_words bs in

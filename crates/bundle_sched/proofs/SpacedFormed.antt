@@ -4,7 +4,7 @@ use Rattle.std.specs.Prelude.{nat_lt, nat_le, ◌&&◌, not}
 use Rattle.std.specs.List.{list_all}
 use Rattle.std.proofs.lemmas.Bool.{and_parts, and_from, not-true}
 use Rattle.std.proofs.lemmas.List.{length-map}
-use Rattle.patmos_instr.specs.Bundles.{Slots}
+use Rattle.patmos_instr.specs.Bundles.{PlainBundle}
 use Rattle.patmos_instr.specs.declared.instructions.Op.{Op}
 use Rattle.patmos_instr.specs.declared.instructions.Op.TheVariants.{Load, Mul}
 use Rattle.patmos_instr.specs.declared.memories.Mem.{Mem}
@@ -43,25 +43,26 @@ return_early = early is_return (λ space width rd ra imm. refl) (λ unsigned ra 
 
 -- ---- what stays as it is
 
-pub none_awaited : (b : Slots) (bs : List Slots) → is_late b.first.op ≡ false → is_awaited b bs ≡ false
+pub none_awaited : (b : PlainBundle) (bs : List PlainBundle) → is_late b.first.op ≡ false → is_awaited b bs ≡ false
 none_awaited b [] early = early
 none_awaited b (c ∷ cs) early = ap (λ late. late && not (ignores_both b.first.op c)) early
 
-early_stays : (b : Slots) (bs : List Slots) → is_late b.first.op ≡ false → spaced bs ≡ bs → spaced (b ∷ bs) ≡ b ∷ bs
+early_stays : (b : PlainBundle) (bs : List PlainBundle) → is_late b.first.op ≡ false → spaced bs ≡ bs
+    → spaced (b ∷ bs) ≡ b ∷ bs
 early_stays b bs early same = ap (λ awaited. (if awaited then b ∷ idle ∷ [] else b ∷ []) ++ spaced bs) (none_awaited b
     bs early) ∙ ap (λ xs. b ∷ xs) same
 
 -- ---- slots whose values do not come late
 
-abbrev pub is_prompt : Slots → Bool
+abbrev pub is_prompt : PlainBundle → Bool
 is_prompt b = not (is_late b.first.op)
 
 -- of the slots after the flow of a tail
-abbrev pub iteration_prompt : List Slots → Bool
+abbrev pub iteration_prompt : List PlainBundle → Bool
 iteration_prompt [] = true
 iteration_prompt (b ∷ bs) = if is_branch b.first.op then list_all is_prompt bs else iteration_prompt bs
 
-abbrev pub way_prompt : List Slots → Bool
+abbrev pub way_prompt : List PlainBundle → Bool
 way_prompt [] = true
 way_prompt (b ∷ bs) = list_all is_prompt bs
 
@@ -76,13 +77,13 @@ abbrev mutual
   parts_prompt no_part = true
   parts_prompt (part p rest) = part_prompt p && parts_prompt rest
 
-prompts_stay : (bs : List Slots) → list_all is_prompt bs ≡ true → spaced bs ≡ bs
+prompts_stay : (bs : List PlainBundle) → list_all is_prompt bs ≡ true → spaced bs ≡ bs
 prompts_stay [] h = refl
 prompts_stay (b ∷ bs) h =
     let both = and_parts (not (is_late b.first.op)) (list_all is_prompt bs) h in
     early_stays b bs (not-true (is_late b.first.op) both.0) (prompts_stay bs both.1)
 
-pub way_stays : (is_it : Op → Bool) → ((op : Op) → is_it op ≡ true → is_late op ≡ false) → (tail : List Slots)
+pub way_stays : (is_it : Op → Bool) → ((op : Op) → is_it op ≡ true → is_late op ≡ false) → (tail : List PlainBundle)
     → is_way is_it tail ≡ true → way_prompt tail ≡ true → spaced tail ≡ tail
 way_stays is_it early [] h slots = refl
 way_stays is_it early (b ∷ bs) h slots =
@@ -91,7 +92,7 @@ way_stays is_it early (b ∷ bs) h slots =
 
 -- ---- bundles without a flow, and iterations
 
-calm_spaced : (bs : List Slots) → are_calm bs ≡ true → are_calm (spaced bs) ≡ true
+calm_spaced : (bs : List PlainBundle) → are_calm bs ≡ true → are_calm (spaced bs) ≡ true
 calm_spaced [] h = refl
 calm_spaced (b ∷ bs) h =
     let both = and_parts (not (is_flow b.first.op)) (are_calm bs) h in
@@ -99,13 +100,14 @@ calm_spaced (b ∷ bs) h =
     elim (is_awaited b bs) as (λ awaited. are_calm ((if awaited then b ∷ idle ∷ [] else b ∷ []) ++ spaced bs) ≡ true)
     [ true ↦ calm | false ↦ calm ]
 
-pub iteration_front : (b : Slots) (bs : List Slots) → is_branch b.first.op ≡ false → not (is_flow b.first.op) ≡ true
+pub iteration_front : (b : PlainBundle) (bs : List PlainBundle) → is_branch b.first.op ≡ false
+    → not (is_flow b.first.op) ≡ true
     → is_iteration bs ≡ true → is_iteration (b ∷ bs) ≡ true
 iteration_front b bs other calm h =
     ap (λ back. if back then are_delay_slots 2 bs else (not (is_flow b.first.op) && is_iteration bs)) other
     ∙ and_from (not (is_flow b.first.op)) (is_iteration bs) calm h
 
-iteration_spaced : (tail : List Slots) → is_iteration tail ≡ true → iteration_prompt tail ≡ true
+iteration_spaced : (tail : List PlainBundle) → is_iteration tail ≡ true → iteration_prompt tail ≡ true
     → is_iteration (spaced tail) ≡ true
 iteration_spaced [] h idles = h
 iteration_spaced (b ∷ bs) h idles = so (is_branch b.first.op) refl (λ h idles. iteration_spaced bs h idles)

@@ -2,7 +2,7 @@
 use Rattle.std.proofs.Common.{ℕ, zero, suc, ◌≡◌, ◌==◌, Bool, true, false, List, [], ◌∷◌, ◌++◌, length, map, slice_index_or, sym, subst}
 use Rattle.std.specs.Bool.{MatchBool}
 use Rattle.std.proofs.lemmas.List.{length-map}
-use Rattle.patmos_instr.specs.Bundles.{Slots}
+use Rattle.patmos_instr.specs.Bundles.{PlainBundle}
 use Rattle.sp_shape.specs.Parts.{PlainPart, straight, repeats, calls_to, leaves, PlainParts, no_part, part, PlainShape}
 use Rattle.sp_shape.specs.Run.{Run, IsWhole, Back, Sources, branches, returns, run_late, run}
 use Rattle.sp_shape.specs.Trail.{Step, begins, all_done, part_trail, trails}
@@ -11,7 +11,7 @@ use Rattle.bundle_sched.specs.Placed.{spaced, part_placed, parts_placed, placed}
 use Rattle.bundle_sched.proofs.SpacedRuns.{Same, same_nothing, same_then, same_begun, same_bundles, same_part, same_parts, same_functions, placed_at}
 
 -- what is said of the runs before and after a tail
-after_tail : {from : Sources} {xs us : List Step} (P : Run → Run → Type 0) (tail : List Slots) → Same from xs us
+after_tail : {from : Sources} {xs us : List Step} (P : Run → Run → Type 0) (tail : List PlainBundle) → Same from xs us
     → (m : Run) → IsWhole m
     → P (run from us m) (run from (all_done tail) (run from us m))
     → P (run_late from xs m) (run_late from (all_done (spaced tail)) (run_late from xs m))
@@ -19,7 +19,7 @@ after_tail {from} {xs} {us} P tail a m whole h =
     subst (λ t. P t (run_late from (all_done (spaced tail)) t)) (sym (a.runs m whole))
     (subst (λ u. P (run from us m) u) (sym ((same_bundles from tail).runs (run from us m) (a.whole m whole))) h)
 
-iterations_same : {from : Sources} {xs us : List Step} (Inside Late : Run → Type 0) (tail : List Slots)
+iterations_same : {from : Sources} {xs us : List Step} (Inside Late : Run → Type 0) (tail : List PlainBundle)
     → Same from xs us → ((m : Run) → IsWhole m → Inside m → Late m)
     → (n : ℕ) (m : Run) → IsWhole m → AllIterations (run from) Inside us tail n m
     → AllIterations (run_late from) Late xs (spaced tail) n m
@@ -39,8 +39,9 @@ iterations_same {from} {xs} {us} Inside Late tail a inside (suc (suc n)) m whole
 
 module _ (from : Sources) (f g : ℕ → List Step) (Called Late : ℕ → Run → Type 0)
     (each : (k : ℕ) → Same from (g k) (f k))
-    (called : (k : ℕ) (m : Run) → IsWhole m → Called k m → Late k m) (AtReturn AtNewReturn : List Slots → Run → Type 0)
-    (at_return : (tail : List Slots) (m : Run) → IsWhole m → AtReturn tail m → AtNewReturn (spaced tail) m) where
+    (called : (k : ℕ) (m : Run) → IsWhole m → Called k m → Late k m)
+    (AtReturn AtNewReturn : List PlainBundle → Run → Type 0)
+    (at_return : (tail : List PlainBundle) (m : Run) → IsWhole m → AtReturn tail m → AtNewReturn (spaced tail) m) where
   mutual
     part_iterations : (p : PlainPart) (m : Run) → IsWhole m → PartGoes (run from) f Called AtReturn p m
         → PartGoes (run_late from) g Late AtNewReturn (part_placed p) m
@@ -73,13 +74,14 @@ chosen true here there h = here h
 chosen false here there h = there h
 
 -- a return goes where it went
-returns_left : (from : Sources) (back : Back) (tail : List Slots) (m : Run) → IsWhole m → Returns (run from) tail back m
+returns_left : (from : Sources) (back : Back) (tail : List PlainBundle) (m : Run) → IsWhole m
+    → Returns (run from) tail back m
     → Returns (run_late from) (spaced tail) back m
 returns_left from back tail m whole h =
     subst (λ t. t.ways ≡ m.ways ++ returns back.base back.offset ∷ []) (sym ((same_bundles from tail).runs m whole)) h
 
-module _ (from : Sources) (AtReturn AtNewReturn : Run → List Slots → Run → Type 0)
-    (at_return : (begun : Run) (tail : List Slots) (m : Run) → IsWhole m → AtReturn begun tail m
+module _ (from : Sources) (AtReturn AtNewReturn : Run → List PlainBundle → Run → Type 0)
+    (at_return : (begun : Run) (tail : List PlainBundle) (m : Run) → IsWhole m → AtReturn begun tail m
     → AtNewReturn begun (spaced tail) m) where
   functions_go : (fs : List PlainParts) (n k : ℕ) (m : Run) → IsWhole m → FunctionsGo (run from) AtReturn fs n k m
       → FunctionsGo (run_late from) AtNewReturn (map parts_placed fs) n k m

@@ -1,7 +1,7 @@
 -- What comes of a trail that is read at once comes of the spaced one that is read late.
 use Rattle.std.proofs.Common.{◌≡◌, ℕ, zero, suc, ◌==◌, true, false, if◌then◌else◌, List, [], ◌∷◌, ◌++◌, length, map, slice_index_or, refl, sym, ap, ◌∙◌, subst}
 use Rattle.std.proofs.lemmas.List.{length-map}
-use Rattle.patmos_instr.specs.Bundles.{Slots}
+use Rattle.patmos_instr.specs.Bundles.{PlainBundle}
 use Rattle.sp_shape.specs.Parts.{PlainPart, straight, repeats, calls_to, leaves, PlainParts, no_part, part, PlainShape}
 use Rattle.sp_shape.proofs.Whole.{begun_whole, run_whole, run_append, late_append}
 use Rattle.sp_shape.specs.Run.{Run, IsWhole, Sources, begun, run_late, run}
@@ -33,7 +33,7 @@ same_begun a = record {
       (begun_whole m whole);
 }
 
-pub same_bundles : (from : Sources) (bs : List Slots) → Same from (all_done (spaced bs)) (all_done bs)
+pub same_bundles : (from : Sources) (bs : List PlainBundle) → Same from (all_done (spaced bs)) (all_done bs)
 same_bundles from bs = record { runs = in_time from bs; whole = run_whole from (all_done bs) }
 
 same_copies : {from : Sources} {xs ys : List Step} → Same from xs ys → (n : ℕ) → Same from (copies n xs) (copies n ys)

@@ -4,7 +4,7 @@ use Rattle.std.proofs.Common.{◌≡◌, ℕ, ◌==◌, Bool, true, false, true�
 use Rattle.std.specs.Prelude.{◌&&◌, ◌||◌, is_none}
 use Rattle.std.specs.List.{list_all}
 use Rattle.std.proofs.lemmas.Bool.{and_parts, and_from, eqb-true}
-use Rattle.patmos_instr.specs.Bundles.{Slots}
+use Rattle.patmos_instr.specs.Bundles.{PlainBundle}
 use Rattle.patmos_instr.specs.declared.instructions.Instr.{Instr}
 use Rattle.patmos_instr.specs.declared.instructions.Op.{Op}
 use Rattle.patmos_instr.specs.declared.instructions.Op.TheVariants.{AluImm, AluReg, AluLong, Mul, Cmp, CmpImm, Comb, ToSpecial, Load}
@@ -233,7 +233,7 @@ abbrev pub SecondsFree : Option Instr → Option Instr → Type 0
 SecondsFree o None = Unit {0}
 SecondsFree o (Some j) = SecondFree o j
 
-pub record Apart (b c : Slots) : Type 0 where
+pub record Apart (b c : PlainBundle) : Type 0 where
   pub firsts : AreFree b.first c.first
   pub second : SecondFree b.second c.first
   pub other : SecondFree c.second b.first
@@ -249,15 +249,15 @@ second_plain None h = tt
 second_plain (Some i) h = h
 
 -- what a bundle leaves of registers and of predicates
-abbrev left_by : Slots → ℕ → Bool
+abbrev left_by : PlainBundle → ℕ → Bool
 left_by b r = lacks (results b.first.op) r && second_left b.second r
 
-abbrev leaves_by : Slots → ℕ → Bool
+abbrev leaves_by : PlainBundle → ℕ → Bool
 leaves_by b p = spares b.first.op (p ∷ []) && second_leaves b.second p
 
 -- ---- a bundle of plain instructions and any other
 
-module _ (from : Sources) (b c : Slots) (m : Run) (whole : IsWhole m) (plain : is_plain_op c.first.op ≡ true)
+module _ (from : Sources) (b c : PlainBundle) (m : Run) (whole : IsWhole m) (plain : is_plain_op c.first.op ≡ true)
     (plains : SecondPlain c.second) (free : Apart b c) where
   abbrev w : Write
   w = slot_write m.st m.ss m.regs c.first
@@ -464,13 +464,13 @@ second_turned : (o : Option Instr) (x : Instr) → SecondFree o x → SecondsFre
 second_turned None x h = tt
 second_turned (Some i) x h = tt
 
-by_parts : (b x : Slots) → lets_by b x ≡ true → AreFree b.first x.first × SecondFree b.second x.first
+by_parts : (b x : PlainBundle) → lets_by b x ≡ true → AreFree b.first x.first × SecondFree b.second x.first
 by_parts b x by =
     let both = and_parts (are_free b.first x.first)
     (elim b.second as (λ _. Bool) [ None ↦ true | Some i ↦ are_free i x.first ]) by in
     (both_free b.first x.first both.0, second_free b.second x.first both.1)
 
-plain_goes : (from : Sources) (b : Slots) (x : Instr) (m : Run) → IsWhole m → is_plain_op x.op ≡ true
+plain_goes : (from : Sources) (b : PlainBundle) (x : Instr) (m : Run) → IsWhole m → is_plain_op x.op ≡ true
     → lets_by b (lone x) ≡ true → once from b (once from (lone x) m) ≡ once from (lone x) (once from b m)
 plain_goes from b x m whole plain by =
     let free = by_parts b (lone x) by in
@@ -481,7 +481,8 @@ plain_goes from b x m whole plain by =
       seconds = tt;
     })
 
-plain_stays : (from : Sources) (b : Slots) (x : Instr) (m : Run) → IsWhole m → all_plain b ≡ true → lets_by b (lone x)
+plain_stays : (from : Sources) (b : PlainBundle) (x : Instr) (m : Run) → IsWhole m → all_plain b ≡ true
+    → lets_by b (lone x)
     ≡ true → once from b (once from (lone x) m) ≡ once from (lone x) (once from b m)
 plain_stays from b x m whole plain by =
     let free = by_parts b (lone x) by in
@@ -495,7 +496,8 @@ plain_stays from b x m whole plain by =
       seconds = second_turned b.second x free.1;
     }))
 
-pub swap_once : (from : Sources) (b x : Slots) (m : Run) → IsWhole m → goes_by b x ≡ true → once from x (once from b m)
+pub swap_once : (from : Sources) (b x : PlainBundle) (m : Run) → IsWhole m → goes_by b x ≡ true
+    → once from x (once from b m)
     ≡ once from b (once from x m)
 swap_once from b x m whole by =
     let one = and_parts (is_none x.second) (lets_by b x && (is_plain_op x.first.op || all_plain b)) by in
@@ -576,7 +578,8 @@ joined_once from x y m whole plain free =
     ∙ sym (plain_once from (lone y) (with_regs out mid) whole_t plain)
     ∙ ap (once from (lone y)) (sym x_is)
 
-pub join_once : (from : Sources) (a b : Slots) (m : Run) → IsWhole m → can_join a b ≡ true → once from (pair a b) m
+pub join_once : (from : Sources) (a b : PlainBundle) (m : Run) → IsWhole m → can_join a b ≡ true
+    → once from (pair a b) m
     ≡ once from b (once from a m)
 join_once from a b m whole h =
     let p = pairs a b h in

@@ -2,7 +2,7 @@
 use Rattle.std.proofs.Common.{◌≡◌, ℕ, Bool, true, false, not, true≢false, if◌then◌else◌, Option, Some, None, List, [], ◌∷◌, ◌++◌, refl, sym, ap, ◌∙◌, subst}
 use Rattle.std.specs.Prelude.{◌&&◌}
 use Rattle.std.proofs.lemmas.Bool.{and_parts, not-true, not-false}
-use Rattle.patmos_instr.specs.Bundles.{Slots}
+use Rattle.patmos_instr.specs.Bundles.{PlainBundle}
 use Rattle.patmos_instr.specs.declared.instructions.Instr.{Instr}
 use Rattle.patmos_instr.specs.declared.instructions.Op.{Op}
 use Rattle.patmos_instr.specs.declared.instructions.Op.TheVariants.{Mul, FromSpecial, Stack, Load, Store}
@@ -42,7 +42,7 @@ UnreadSecond p None = Unit {0}
 UnreadSecond p (Some i) = Unread p i.op
 
 -- nor a bundle
-abbrev UnreadBoth : Pending → Slots → Type 0
+abbrev UnreadBoth : Pending → PlainBundle → Type 0
 UnreadBoth p b = Unread p b.first.op × UnreadSecond p b.second
 
 -- the registers that what is pending goes to
@@ -151,7 +151,7 @@ three_writes u v w p regs = ap (λ r. with_pending r p) (after_writes-append (u 
 
 -- ---- a bundle that does not read what is pending
 
-unread_late : (from : Sources) (b : Slots) (m : Run) → FitsRegisters m.regs → UnreadBoth m.regs.pending b
+unread_late : (from : Sources) (b : PlainBundle) (m : Run) → FitsRegisters m.regs → UnreadBoth m.regs.pending b
     → late from b (with_settled m) ≡ late from b m
 unread_late from b m fits unread =
     let asks = slot_stays m.regs fits asked effect.Nothing b.first (asked_stays m.regs fits b.first.op unread.0) in
@@ -182,7 +182,7 @@ pending_unread from true (Stack func count) other regs m h is =
     subst (λ r. Unread r.pending other) (sym (stacked_regs func count m)) (subst (λ p. Unread p other) (sym is) tt)
 pending_unread from true _ other regs m h is = subst (λ p. Unread p other) (sym is) tt
 
-unread_after : (from : Sources) (a b : Slots) (m : Run) → ignores_both a.first.op b ≡ true
+unread_after : (from : Sources) (a b : PlainBundle) (m : Run) → ignores_both a.first.op b ≡ true
     → UnreadBoth (late from a m).regs.pending b
 unread_after from a b m h = let both = and_parts (ignores a.first.op b.first.op) (second_ignores a.first.op b.second)
     h in (own b.first.op both.0, second b.second both.1)
@@ -197,7 +197,8 @@ unread_after from a b m h = let both = and_parts (ignores a.first.op b.first.op)
 -- ---- bundles
 
 -- where what comes late of a bundle is not waited for, the next one does the same before it has come and after
-can_pass : (from : Sources) (a b : Slots) (bs : List Slots) (m : Run) → IsWhole m → is_awaited a (b ∷ bs) ≡ false
+can_pass : (from : Sources) (a b : PlainBundle) (bs : List PlainBundle) (m : Run) → IsWhole m
+    → is_awaited a (b ∷ bs) ≡ false
     → late from b (late from a m) ≡ late from b (once from a m)
 can_pass from a b bs m whole none = so (is_late a.first.op) refl
   where
@@ -209,7 +210,7 @@ can_pass from a b bs m whole none = so (is_late a.first.op) refl
         sym (unread_late from b (late from a m) (late_fits from a m whole.fits) (unread_after from a b m ignored))
 
 -- what comes of spaced code depends on what its first bundle leaves
-by_first : (from : Sources) (b : Slots) (bs : List Slots) (m n : Run) → late from b m ≡ late from b n
+by_first : (from : Sources) (b : PlainBundle) (bs : List PlainBundle) (m n : Run) → late from b m ≡ late from b n
     → run_late from (all_done (spaced (b ∷ bs))) m ≡ run_late from (all_done (spaced (b ∷ bs))) n
 by_first from b bs m n same =
     elim (is_awaited b bs) as (λ awaited. run_late from (all_done ((if awaited then b ∷ idle ∷ [] else b ∷ [])
@@ -219,13 +220,13 @@ by_first from b bs m n same =
     ]
 
 -- the code after a bundle
-rest_runs : (from : Sources) (a : Slots) (bs : List Slots) (m : Run) → IsWhole m → is_awaited a bs ≡ false
+rest_runs : (from : Sources) (a : PlainBundle) (bs : List PlainBundle) (m : Run) → IsWhole m → is_awaited a bs ≡ false
     → run_late from (all_done (spaced bs)) (late from a m) ≡ run_late from (all_done (spaced bs)) (once from a m)
 rest_runs from a [] m whole none = early_once from a m whole none
 rest_runs from a (b ∷ bs) m whole none =
     by_first from b bs (late from a m) (once from a m) (can_pass from a b bs m whole none)
 
-pub in_time : (from : Sources) (bs : List Slots) (m : Run) → IsWhole m → run_late from (all_done (spaced bs)) m
+pub in_time : (from : Sources) (bs : List PlainBundle) (m : Run) → IsWhole m → run_late from (all_done (spaced bs)) m
     ≡ run from (all_done bs) m
 in_time from [] m whole = refl
 in_time from (a ∷ bs) m whole = so (is_awaited a bs) refl ∙ in_time from bs (once from a m) (once_whole from a m whole)

@@ -1,11 +1,11 @@
 -- For proofs. What stands beside each flow of code is of a kind for the second slot, as in each bundle that there is.
 use Rattle.std.specs.Prelude.{Bool, true, ◌&&◌, List, [], ◌∷◌}
-use Rattle.patmos_instr.specs.Bundles.{Slots, is_legal}
+use Rattle.patmos_instr.specs.Bundles.{PlainBundle, is_legal}
 use Rattle.sp_shape.specs.Parts.{PlainPart, straight, repeats, calls_to, leaves, PlainParts, no_part, part}
 use Rattle.bundle_sched.specs.Packing.{from_branch}
 
 -- of a tail
-abbrev pub has_legal_flow : List Slots → Bool
+abbrev pub has_legal_flow : List PlainBundle → Bool
 has_legal_flow [] = true
 has_legal_flow (flow ∷ slots) = is_legal flow.first flow.second
 

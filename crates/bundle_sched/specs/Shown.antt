@@ -1,6 +1,6 @@
 -- For worked rows. Small functions for worked examples.
 use Rattle.std.specs.Prelude.{ℕ, [], ◌∷◌}
-use Rattle.patmos_instr.specs.Bundles.{Slots}
+use Rattle.patmos_instr.specs.Bundles.{PlainBundle}
 use Rattle.patmos_instr.specs.declared.instructions.Op.TheVariants.{AluImm, CmpImm, Return}
 use Rattle.patmos_instr.specs.declared.functions.CmpFunc.TheVariants as cmp
 use Rattle.patmos_instr.specs.declared.functions.ImmFunc.TheVariants as imm
@@ -9,11 +9,11 @@ use Rattle.sp_shape.specs.Small as small
 use Rattle.bundle_sched.specs.Packed.{pair}
 
 -- a register = r1 + 1
-abbrev pub add_to : ℕ → Slots
+abbrev pub add_to : ℕ → PlainBundle
 add_to r = small.under small.always (AluImm imm.Add r 1 1)
 
 -- p1 = whether r1 is not 0
-abbrev pub test : Slots
+abbrev pub test : PlainBundle
 test = small.under small.always (CmpImm cmp.Neq 1 1 0)
 
 -- two pieces of straight code with a load, and the return
@@ -44,11 +44,11 @@ packed_turning =
 -- ---- to be ordered
 
 -- a register = 1
-abbrev pub set : ℕ → Slots
+abbrev pub set : ℕ → PlainBundle
 set r = small.under small.always (AluImm imm.Add r 0 1)
 
 -- a register = 1 where p1 is true
-abbrev pub set_on : ℕ → Slots
+abbrev pub set_on : ℕ → PlainBundle
 set_on r = small.under small.p1 (AluImm imm.Add r 0 1)
 
 -- an addition, a load, what waits for it, and two that do not; the return

@@ -3,7 +3,7 @@ ghost use Rattle.std.specs.Prelude.{◌≡◌, ℕ, Bool, true, Some, slice_inde
 ghost use Rattle.bundle_sched.specs.Packed.{can_join, pair, lone};
 ghost use Rattle.bundle_sched.specs.Scheduled.{scheduled};
 ghost use Rattle.bundle_sched.specs.declared.ordering.TheConstants.{WINDOW};
-ghost use Rattle.patmos_instr.specs.Bundles.{Slots};
+ghost use Rattle.patmos_instr.specs.Bundles.{PlainBundle};
 ghost use Rattle.patmos_instr.specs.declared.instructions.Instr.{Instr};
 ghost use Rattle.sp_shape.specs.Bundles.{is_idle, parts_all};
 ghost use Rattle.sp_shape.specs.Parts.{no_part, PlainShape};
@@ -13,9 +13,9 @@ ghost use Rattle.sp_shape.specs.Parts.{no_part, PlainShape};
 /// instructions where it holds of each alone.
 #[tactic(auto, using(crate::proofs::Kept::none_lost))]
 pub fn no_bundle_is_lost()
-    ensures { (holds : Slots → Bool) → ((b : Slots) → is_idle b ≡ true → holds b ≡ true)
-        → ((a b : Slots) → can_join a b ≡ true → holds (pair a b) ≡ true → (holds a ≡ true) × (holds b ≡ true))
-        → ((b : Slots) (i : Instr) → b.second ≡ Some i
+    ensures { (holds : PlainBundle → Bool) → ((b : PlainBundle) → is_idle b ≡ true → holds b ≡ true)
+        → ((a b : PlainBundle) → can_join a b ≡ true → holds (pair a b) ≡ true → (holds a ≡ true) × (holds b ≡ true))
+        → ((b : PlainBundle) (i : Instr) → b.second ≡ Some i
         → holds (lone b.first) ≡ true → holds (lone i) ≡ true → holds b ≡ true)
         → (s : PlainShape) (k : ℕ)
         → parts_all holds (slice_index_or (scheduled s).functions k no_part) ≡ true

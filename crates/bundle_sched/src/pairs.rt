@@ -3,7 +3,7 @@ ghost use Rattle.std.specs.Prelude.{◌≡◌, not, ◌&&◌, ◌++◌, true, fa
 ghost use Rattle.bundle_sched.specs.Ordered as ordered;
 ghost use Rattle.bundle_sched.specs.Packed as specs;
 ghost use Rattle.bundle_sched.specs.Packing as packing;
-ghost use Rattle.patmos_instr.specs.Bundles.{Slots};
+ghost use Rattle.patmos_instr.specs.Bundles.{PlainBundle};
 ghost use Rattle.patmos_instr.specs.Instructions.{is_second_kind};
 ghost use Rattle.sp_shape.specs.Bundles.{is_idle, is_idle_op};
 ghost use Rattle.sp_shape.specs.Formed.{is_always};
@@ -119,7 +119,7 @@ fn held(
     before: Option<Bundle>,
     bundle: &Bundle,
 ) -> Result<Option<Bundle>, OutOfMemory>
-    ensures { IfOk result (λ next. (rest : List Slots)
+    ensures { IfOk result (λ next. (rest : List PlainBundle)
         → out.new.items ++ packing.behind next rest ≡ out.old.items ++ packing.behind before (bundle.now ∷ rest)) }
 {
     if does_nothing(bundle) {

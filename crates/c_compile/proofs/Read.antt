@@ -8,7 +8,8 @@ use Rattle.c_tree.specs.Plain.{PlainItem, plain}
 use Rattle.c_tree.specs.Tokens.{tokens_of}
 use Rattle.c_tree.specs.Valid.{fault_of}
 use Rattle.c_parse.specs.Answers.{place_of}
-use Rattle.c_parse.proofs.Reading.{tree_of, trees_read}
+use Rattle.c_parse.specs.Tree.{tree_of}
+use Rattle.c_parse.proofs.Reading.{trees_read}
 use Rattle.c_compile.specs.Texts.{Refused, no_program_at, checked, parsed}
 
 -- tokens that are a program are checked as its tree is

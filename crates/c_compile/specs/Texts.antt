@@ -3,7 +3,7 @@
 use Rattle.std.specs.Prelude.{ℕ, nat_le, List, Option, Some, None, Result, Ok, Err, if◌then◌else◌}
 use Rattle.c_lex.specs.Texts.{Lexed, tokens, no_token, too_wide, lexed}
 use Rattle.c_parse.specs.Answers.{place_of}
-use Rattle.c_parse.proofs.Reading.{tree_of}
+use Rattle.c_parse.specs.Tree.{tree_of}
 use Rattle.c_tree.specs.declared.checks.Fault.{Fault}
 use Rattle.c_tree.specs.declared.tokens.Token.{Token}
 use Rattle.c_tree.specs.Plain.{PlainItem}

@@ -12,9 +12,8 @@ use Rattle.c_meaning.specs.Actions.{PlainTarget, to_level, to_cell, to_array, Pl
 
 abbrev pub plain_target : Target → PlainTarget
 plain_target (target.Variable level) = to_level level.number
-plain_target (target.Scalar word) = to_cell (record { region = word.region; word = word.word })
-plain_target (target.Element array index) =
-    to_array (record { region = array.region; first = array.first; length = array.length }) (plain_sp index)
+plain_target (target.Scalar word) = to_cell word.cell
+plain_target (target.Element array index) = to_array array.words (plain_sp index)
 
 abbrev pub plain_assignment : Assignment → PlainAssignment
 plain_assignment a = record { target = plain_target a.target; value = plain_sp a.value }

@@ -4,8 +4,7 @@ ghost use Rattle.c_tree.specs.declared.limits.TheConstants.{MOST_LEVELS, MOST_PA
 ghost use Rattle.c_world.specs.Shown.{room_in};
 ghost use Rattle.c_meaning.specs.Rooms.{all_rooms};
 
-use c_world::Region;
-use sp_tree::SpExpr;
+use sp_tree::{SpArray, SpCell, SpExpr};
 use tc_word::List;
 
 /// The variable of a level.
@@ -15,21 +14,18 @@ pub struct Level {
     pub ghost within: { number < MOST_LEVELS },
 }
 
-/// A word of a memory.
+/// A word that its memory has.
 #[derive(Clone, Copy, Debug, PartialEq, Eq)]
 pub struct Word {
-    pub region: Region,
-    pub word: u32,
-    pub ghost within: { word < room_in region all_rooms },
+    pub cell: SpCell,
+    pub ghost within: { cell.word < room_in cell.region all_rooms },
 }
 
-/// An array in a memory.
+/// An array whose words its memory has.
 #[derive(Clone, Copy, Debug, PartialEq, Eq)]
 pub struct Array {
-    pub region: Region,
-    pub first: u32,
-    pub length: u32,
-    pub ghost within: { first + length ≤ room_in region all_rooms },
+    pub words: SpArray,
+    pub ghost within: { words.first + words.length ≤ room_in words.region all_rooms },
 }
 
 /// What is set.

@@ -29,23 +29,16 @@ fn word_target(cell: SpCell) -> Target
     requires { cell.word < room_in cell.region all_rooms }
     ensures { plain_target result ≡ to_cell cell }
 {
-    let word = Word {
-        region: cell.region,
-        word: cell.word,
-    };
+    let word = Word { cell };
     Target::Scalar { word }
 }
 
 // an element of an array
-fn array_target(array: SpArray, index: SpExpr) -> Target
-    requires { array.first + array.length ≤ room_in array.region all_rooms }
-    ensures { plain_target result ≡ to_array array (plain_sp index) }
+fn array_target(words: SpArray, index: SpExpr) -> Target
+    requires { words.first + words.length ≤ room_in words.region all_rooms }
+    ensures { plain_target result ≡ to_array words (plain_sp index) }
 {
-    let array = Array {
-        region: array.region,
-        first: array.first,
-        length: array.length,
-    };
+    let array = Array { words };
     Target::Element { array, index }
 }
 

@@ -10,7 +10,7 @@ use Rattle.c_tree.specs.Fits.{ExprFits, most_open, open_after}
 use Rattle.c_parse.specs.Expected.{Expected, Only, drive_to}
 use Rattle.c_parse.specs.Readers.{begins, level_ahead}
 use Rattle.c_parse.specs.Sorts.{is_sign, opens_none}
-use Rattle.c_parse.proofs.Reader.{Reader, on, read}
+use Rattle.c_parse.specs.Tree.{Reader, on, read}
 use Rattle.c_parse.proofs.Steps.{tests, sign_read}
 
 -- Tokens whose brackets fit are read up to the rest, whose brackets then fit: where these are to come, and by the reader.

@@ -9,7 +9,8 @@ use Rattle.c_tree.specs.declared.expressions.UnaryOp.{UnaryOp}
 use Rattle.c_tree.specs.Tokens.{one, word, unary_sign, binary_sign}
 use Rattle.c_parse.specs.Expected.{Expected, Move, taken, passed, refused, and_then}
 use Rattle.c_parse.specs.Sorts.{is_sign, is_keyword, is_name, is_number, is_bound, is_prefix, may_open, level_at, opens_none, a_sign, is_a}
-use Rattle.c_parse.proofs.Tests.{sign_is, keyword_is, prefix_at, prefix_is, operator_at, operator_is}
+use Rattle.c_parse.specs.Tree.{operator_at}
+use Rattle.c_parse.proofs.Tests.{sign_is, keyword_is, prefix_at, prefix_is, operator_is}
 use Rattle.c_parse.proofs.Starts.{stays}
 use Rattle.c_parse.proofs.Written.{Through}
 

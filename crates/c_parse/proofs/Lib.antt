@@ -12,7 +12,6 @@ pub mod OneProgram
 pub mod Programs
 pub mod Pushed
 pub mod ReadExpressions
-pub mod Reader
 pub mod ReadWhole
 pub mod Reading
 pub mod Refused

@@ -24,7 +24,7 @@ use Rattle.c_parse.specs.Sorts.{is_sign, is_keyword}
 use Rattle.std.specs.Prelude.{⊤}
 use Rattle.c_tree.specs.Plain.{PlainBlock, PlainItem, global, function, plain_stmt, plain_item}
 use Rattle.c_tree.specs.Plains.{block_of}
-use Rattle.c_parse.proofs.Reader.{Reader, skip, statements, constant, constants, further_constants, elements, shape_at, parameters_at, parameters, function_of, statements_of, items, on}
+use Rattle.c_parse.specs.Tree.{Reader, skip, statements, constant, constants, further_constants, elements, shape_at, parameters_at, parameters, function_of, statements_of, items, on}
 use Rattle.c_parse.proofs.Tests.{may_not_open}
 use Rattle.c_parse.proofs.Steps.{sign_read, bracket_read, name_read, number_read}
 use Rattle.c_parse.proofs.Starts.{statements_end, statements_statement, items_kind, items_scratch, items_void, kind_kind, outside_function, outside_variable, variable_array, variable_assign, variable_end, elements_assign, elements_end, constant_number, constant_minus, constants_next, constants_done, parameters_end, parameters_void, parameters_kind, parameters_next, parameters_done}

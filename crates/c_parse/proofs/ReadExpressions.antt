@@ -23,8 +23,8 @@ use Rattle.c_parse.specs.Sorts.{is_sign, is_name, level_at, opens_none}
 use Rattle.c_parse.proofs.Steps.{operand_number, operand_name, operand_paren, operand_prefix, index_bracket, no_index, tail_operator, no_tail}
 use Rattle.c_parse.proofs.Starts.{right_name, right_call, right_read, right_operand, arguments_end, arguments_next, arguments_done, arguments_operand}
 use Rattle.c_parse.proofs.Driven.{Goes, and_on, along, stay, as_by, renamed, step, open_step, closes, back, open_again, Behind, Ends, args_begin, ends_comma, ends_bracket, ends_parenthesis}
-use Rattle.c_parse.proofs.Tests.{operator_at, may_not_open}
-use Rattle.c_parse.proofs.Reader.{Reader, look, further_arguments, arguments, right, operand, skip, further_steps, with_sign, chained, levels, no_calls, expression, on, read, read_to_end}
+use Rattle.c_parse.proofs.Tests.{may_not_open}
+use Rattle.c_parse.specs.Tree.{Reader, look, further_arguments, arguments, right, operand, skip, further_steps, with_sign, chained, levels, no_calls, expression, on, read, read_to_end, operator_at}
 
 -- the operator again, the level that its sign has, and that this is no bracket
 operator_again : (op : BinaryOp) → (operator_at (one (binary_sign op)) ≡ op)

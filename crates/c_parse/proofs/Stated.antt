@@ -22,7 +22,7 @@ use Rattle.c_parse.proofs.Steps.{sign_read, bracket_read, name_read, number_read
 use Rattle.c_parse.proofs.Starts.{statements_end, statements_statement, statement_kind, statement_name, statement_send, statement_if, statement_bound, statement_break, statement_continue, statement_return, statement_while, statement_for, statement_brace, loop_while, loop_for, initial_assign, initial_end, after_name_assign, after_name_bracket, after_name_call, given_none, given_operand, else_more, branch_if, branch_brace, condition_open, block_open, assigned_name, test_semicolon, further_comma, no_else}
 use Rattle.c_parse.proofs.Driven.{Goes, and_on, along, stay, as_by, renamed, step, open_step, open_again, closes, back, Ends, ends_parenthesis, ends_bracket, ends_semicolon, ends_comma, given_begins, neither}
 use Rattle.c_tree.specs.Plain.{PlainExpr, plain_expr, PlainRight, plain_right, PlainHead, iterations_while, plain_head, PlainStmt, PlainBlock, PlainArms, PlainOtherwise, no_stmt, stmt, no_arm, no_else as no_branch, or_else, chosen, plain_stmt, plain_block, plain_arms, plain_otherwise}
-use Rattle.c_parse.proofs.Reader.{Reader, skip, a_name, look, expression, right, statements, further_arms, kind_at, an_arm, for_head, head_at, statement_at, a_statement, on, read, read_to_end}
+use Rattle.c_parse.specs.Tree.{Reader, skip, a_name, look, expression, right, statements, further_arms, kind_at, an_arm, for_head, head_at, statement_at, a_statement, on, read, read_to_end}
 use Rattle.c_parse.proofs.ReadExpressions.{look_past, whole_goes, right_goes, args_go}
 
 -- one sign that opens no bracket

@@ -13,6 +13,7 @@ use Rattle.c_tree.specs.declared.expressions.BinaryOp.{BinaryOp}
 use Rattle.c_tree.specs.declared.expressions.BinaryOp.TheVariants as binary
 use Rattle.c_tree.specs.Tokens.{one, word, unary_sign, binary_sign}
 use Rattle.c_parse.specs.Readers.{begins}
+use Rattle.c_parse.specs.Tree.{prefix_of, operator_at}
 use Rattle.c_parse.specs.Sorts.{sign_number, keyword_number, is_sign, is_keyword, may_open, room_to, opens_none, a_sign, is_a, is_prefix, level_at}
 
 -- the sign of a number
@@ -140,42 +141,9 @@ this_bracket limit n s o h =
 
 -- ---- operators
 
-abbrev pub prefix_of : Sign → UnaryOp
-prefix_of s = elim s as (λ _. UnaryOp) [
-  | sign.Minus ↦ unary.Minus
-  | sign.Tilde ↦ unary.Complement
-  | sign.Exclamation ↦ unary.Not
-  | _ ↦ unary.Plus
-]
-
-abbrev pub operator_of : Sign → BinaryOp
-operator_of s = elim s as (λ _. BinaryOp) [
-  | sign.And ↦ binary.And
-  | sign.BitOr ↦ binary.BitOr
-  | sign.BitXor ↦ binary.BitXor
-  | sign.BitAnd ↦ binary.BitAnd
-  | sign.Equal ↦ binary.Equal
-  | sign.NotEqual ↦ binary.NotEqual
-  | sign.Less ↦ binary.Less
-  | sign.Greater ↦ binary.Greater
-  | sign.LessEqual ↦ binary.LessEqual
-  | sign.GreaterEqual ↦ binary.GreaterEqual
-  | sign.ShiftLeft ↦ binary.ShiftLeft
-  | sign.ShiftRight ↦ binary.ShiftRight
-  | sign.Plus ↦ binary.Plus
-  | sign.Minus ↦ binary.Minus
-  | sign.Star ↦ binary.Times
-  | sign.Slash ↦ binary.Divide
-  | sign.Percent ↦ binary.Remainder
-  | _ ↦ binary.Or
-]
-
--- the operators that a token is, if it is one
+-- the prefix that a token is, if it is one
 abbrev pub prefix_at : Token → UnaryOp
 prefix_at t = elim t as (λ _. UnaryOp) [ token.Sign s ↦ prefix_of s | _ ↦ unary.Plus ]
-
-abbrev pub operator_at : Token → BinaryOp
-operator_at t = elim t as (λ _. BinaryOp) [ token.Sign s ↦ operator_of s | _ ↦ binary.Or ]
 
 pub prefix_is : (t : Token) → is_prefix t ≡ true → t ≡ one (unary_sign (prefix_at t))
 unfolding is_prefix

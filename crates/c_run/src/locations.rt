@@ -12,7 +12,7 @@ ghost use Rattle.c_run.specs.Ran.{state_of};
 
 use c_meaning::{Array, Level, Target, Word};
 use c_world::Memory;
-use sp_tree::value;
+use sp_tree::{SpArray, SpCell, value};
 
 /// Where a word is set: an element's index is worked out, and was tested against the array's length.
 #[derive(Clone, Copy, Debug)]
@@ -26,16 +26,23 @@ pub enum Location {
 #[inline(always)]
 fn element_location(array: &Array, index: u32) -> Location
     ensures { (given : ℕ) (s : State) → with_location result given s
-        ≡ record s { world = with_element array.now.region array.now.first array.now.length index given s.world } }
+        ≡ record s { world = with_element array.now.words.region array.now.words.first array.now.words.length index given s.world } }
 {
-    if index >= array.length {
+    let SpArray {
+        region,
+        first,
+        length,
+    } = array.words;
+    if index >= length {
         return Location::Nowhere;
     }
-    let word = Word {
-        region: array.region,
-        word: array.first + index,
+    let cell = SpCell {
+        region,
+        word: first + index,
     };
-    Location::Scalar { word }
+    Location::Scalar {
+        word: Word { cell },
+    }
 }
 
 /// The location of what is set.
@@ -74,7 +81,11 @@ pub fn put(location: Location, given: u32, frame: &mut [u32], memory: &mut Memor
 {
     match location {
         Location::Variable { level } => frame[level.number as usize] = given,
-        Location::Scalar { word } => memory.set_word(word.region, word.word as usize, given),
+        Location::Scalar { word } => memory.set_word(
+            word.cell.region,
+            word.cell.word as usize,
+            given,
+        ),
         Location::Nowhere => {}
     }
 }

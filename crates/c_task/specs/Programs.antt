@@ -16,7 +16,7 @@ use Rattle.shared_order.specs.declared.operation.Operation.{Operation}
 use Rattle.shared_order.specs.SomeWords.{LoadsOnly, StoresOnly}
 use Rattle.single_path.specs.Single.{single}
 use Rattle.slot_arbiter.specs.declared.place.Place.{Place}
-use Rattle.task_machine.specs.Machines.{IsCommOf, Task, none, unknown, compiled}
+use Rattle.task_machine.specs.Machines.{IsCommOf, KnownTask, none, unknown, compiled}
 use Rattle.task_words.specs.Meant.{comm_in, Leaves}
 use Rattle.c_task.specs.Translation.{times}
 
@@ -54,7 +54,7 @@ pub record Touches (items : List PlainItem) (place : Place) (image : Parts) (inp
 -- ---- the tasks of a job
 
 -- the task of a core by what it runs
-abbrev pub task_of : Running → Task
+abbrev pub task_of : Running → KnownTask
 task_of idle = none
 task_of assembly = unknown
 task_of (program items) = compiled (single items)

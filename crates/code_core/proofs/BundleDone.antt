@@ -4,7 +4,7 @@ use Rattle.std.proofs.lemmas.Bool.{eqb-true, and_parts}
 use Rattle.slot_arbiter.specs.Stamp.{stamp}
 use Rattle.shared_order.specs.declared.operation.Operation.{Operation}
 use Rattle.shared_order.specs.Program.{Prog}
-use Rattle.patmos_instr.specs.Bundles.{Slots}
+use Rattle.patmos_instr.specs.Bundles.{PlainBundle}
 use Rattle.patmos_instr.specs.declared.functions.StackFunc.TheVariants.{Sres, Sens, Sfree}
 use Rattle.patmos_instr.specs.declared.memories.Mem.TheVariants as mem
 use Rattle.patmos_instr.specs.declared.memories.Width.{Width}
@@ -142,7 +142,7 @@ taken_so site _ m d value came regs rest s h given is same list = tt
 
 -- ---- the bundle
 
-pub bundle_is : (c : Core) (u : ℕ) (b : Slots) (words : ℕ) → fetched_in c.plain ≡ Found b words
+pub bundle_is : (c : Core) (u : ℕ) (b : PlainBundle) (words : ℕ) → fetched_in c.plain ≡ Found b words
     → fault_of c.plain (effect_of b c.plain.regs) ≡ None
     → bundle u c ≡ answered (effect_of b c.plain.regs) u (with_plain (advanced words b) c)
 bundle_is c u b words found none =
@@ -153,7 +153,8 @@ bundle_is c u b words found none =
       | Some fault ↦ now (with_plain (stopped fault u) c)
     ]) none
 
-bundle_event_is : (x : Plain) (b : Slots) (words : ℕ) → fetched_in x ≡ Found b words → fault_of x (effect_of b x.regs)
+bundle_event_is : (x : Plain) (b : PlainBundle) (words : ℕ) → fetched_in x ≡ Found b words
+    → fault_of x (effect_of b x.regs)
     ≡ None → bundle_event (fetched_in x) x ≡ event_of (effect_of b x.regs) ∷ []
 bundle_event_is x b words found none =
     ap (λ f. bundle_event f x) found ∙ ap (λ t. elim t as (λ _. List Event) [
@@ -164,7 +165,7 @@ bundle_event_is x b words found none =
 
 module _ (n core : ℕ) where
   -- what comes of a bundle whose checks pass, its words being moved
-  pub comes_by : (m : Moment) (r : Run) (b : Slots) (words : ℕ) → IsAboutTo m → fetched_in (core_in m).plain
+  pub comes_by : (m : Moment) (r : Run) (b : PlainBundle) (words : ℕ) → IsAboutTo m → fetched_in (core_in m).plain
       ≡ Found b words
       → IsSound (core_in m).plain.site (effect_of b (core_in m).plain.regs) (pointers_of r) r.memory
       → fault_of (core_in m).plain (effect_of b (core_in m).plain.regs) ≡ None
@@ -206,7 +207,7 @@ module _ (n core : ℕ) where
     pub events_are : bundle_event (fetched_in (core_in m).plain) (core_in m).plain ≡ events
 
   module _ (x : Core) (values : List ℕ) where
-    pub behind : (w : Walk) (b : Slots) (rest : List ℕ) (m : Moment) → Stands n core x values w m
+    pub behind : (w : Walk) (b : PlainBundle) (rest : List ℕ) (m : Moment) → Stands n core x values w m
         → (f : Fetches x.plain.site.image b (flowed w))
         → IsSound x.plain.site (effect_of f.bundle (flowed w).run.regs) (pointers_of (flowed w).run)
         (flowed w).run.memory → (flowed w).run.loads ≡ given n core m ++ rest
@@ -304,7 +305,7 @@ module _ (n core : ℕ) where
     -- ---- to the next moment
 
     -- the bundle was done, where the core was
-    pub listed : (w : Walk) (b : Slots) (rest : List ℕ) (m : Moment) → Stands n core x values w m
+    pub listed : (w : Walk) (b : PlainBundle) (rest : List ℕ) (m : Moment) → Stands n core x values w m
         → (f : Fetches x.plain.site.image b (flowed w))
         → IsSound x.plain.site (effect_of f.bundle (flowed w).run.regs) (pointers_of (flowed w).run)
         (flowed w).run.memory → (flowed w).run.loads ≡ given n core m ++ rest
@@ -313,7 +314,7 @@ module _ (n core : ℕ) where
         next_bundles n core m st.at.about ∙ ap (λ es. m.bundles ++ done_with es m) (behind w b rest m st f sound
         list).events_are
 
-    pub done_as_told : (w : Walk) (b : Slots) (m : Moment) → Stands n core x values w m
+    pub done_as_told : (w : Walk) (b : PlainBundle) (m : Moment) → Stands n core x values w m
         → Fetches x.plain.site.image b (flowed w) → IsDoneAs x.plain.site.image b (done_at m)
     done_as_told w b m st f = record {
       bundle = f.bundle;
@@ -356,7 +357,7 @@ module _ (n core : ℕ) where
           ports = ports;
         }
 
-    pub steps : (w : Walk) (b : Slots) (rest : List ℕ) (m : Moment) → Stands n core x values w m
+    pub steps : (w : Walk) (b : PlainBundle) (rest : List ℕ) (m : Moment) → Stands n core x values w m
         → (f : Fetches x.plain.site.image b (flowed w))
         → IsSound x.plain.site (effect_of f.bundle (flowed w).run.regs) (pointers_of (flowed w).run)
         (flowed w).run.memory → (flowed w).run.loads ≡ given n core m ++ rest
@@ -415,7 +416,7 @@ module _ (n core : ℕ) where
       pub ended : Ended n core w (next n core m)
       pub events_are : events_in n core m ≡ events
 
-    pub finishes : (w : Walk) (b : Slots) (rest : List ℕ) (m : Moment) → Stands n core x values w m
+    pub finishes : (w : Walk) (b : PlainBundle) (rest : List ℕ) (m : Moment) → Stands n core x values w m
         → (f : Fetches x.plain.site.image b (flowed w))
         → IsSound x.plain.site (effect_of f.bundle (flowed w).run.regs) (pointers_of (flowed w).run)
         (flowed w).run.memory → (flowed w).run.loads ≡ given n core m ++ rest

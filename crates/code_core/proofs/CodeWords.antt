@@ -7,7 +7,7 @@ use Rattle.std.proofs.lemmas.Bool.{cases_lt}
 use Rattle.shared_order.proofs.Lists.{each-append}
 use Rattle.patmos_code.specs.Codes.{instr_code, second_word, words, code}
 use Rattle.patmos_code.proofs.Instructions.{instr_small}
-use Rattle.patmos_instr.specs.Bundles.{Slots, FitsBundle}
+use Rattle.patmos_instr.specs.Bundles.{PlainBundle, FitsBundle}
 use Rattle.patmos_instr.specs.Instructions.{FitsOp, FitsInstr}
 use Rattle.patmos_instr.specs.declared.instructions.Instr.{Instr}
 use Rattle.patmos_instr.specs.declared.instructions.Op.{Op}
@@ -31,7 +31,7 @@ beside_fits : (op : Op) (i : Instr) (first : ℕ) → FitsInstr i → first < 2 
     → Each IsWord (words first (second_word op (Some i)))
 beside_fits op i first fits small = (omega (arith, small), (omega (arith, instr_small i fits), tt))
 
-code_fits : (b : Slots) → FitsBundle b → Each IsWord (code b)
+code_fits : (b : PlainBundle) → FitsBundle b → Each IsWord (code b)
 unfolding code
 code_fits b fits = by b.second fits.second
   where
@@ -39,7 +39,7 @@ code_fits b fits = by b.second fits.second
     by None h = alone_fits b.first.op (instr_code b.first) fits.first.1 (instr_small b.first fits.first)
     by (Some i) h = beside_fits b.first.op i (instr_code b.first) h (instr_small b.first fits.first)
 
-codes_fit : (bs : List Slots) → All FitsBundle bs → Each IsWord (codes bs)
+codes_fit : (bs : List PlainBundle) → All FitsBundle bs → Each IsWord (codes bs)
 codes_fit [] fits = tt
 codes_fit (b ∷ bs) fits = each-append IsWord (code b) (codes bs) (code_fits b (fits 0 b (omega arith)))
     (codes_fit bs (λ k d l. fits (suc k) d (omega (arith, l))))

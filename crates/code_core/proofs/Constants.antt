@@ -5,7 +5,7 @@ use Rattle.std.specs.List.{All, list_all}
 use Rattle.std.proofs.Math.ListN.{get_or-eq_default}
 use Rattle.std.proofs.lemmas.Bool.{and_parts, and_from, lt-ltb, ltb-true, cases_lt}
 use Rattle.std.proofs.lemmas.List.Folds.{list_all-append}
-use Rattle.patmos_instr.specs.Bundles.{Slots, FitsBundle}
+use Rattle.patmos_instr.specs.Bundles.{PlainBundle, FitsBundle}
 use Rattle.patmos_instr.specs.Instructions.{FitsOp, FitsInstr}
 use Rattle.patmos_instr.specs.declared.instructions.Instr.{Instr}
 use Rattle.patmos_instr.specs.declared.instructions.Op.{Op}
@@ -28,7 +28,7 @@ second_word : (o : Option Instr) → IfSome o FitsInstr → second_constant o �
 second_word None fits = refl
 second_word (Some i) fits = lt-ltb (constant_of i.op) (2 ^ 32) (fitting_word i.op fits.1)
 
-all_words : (bs : List Slots) → All FitsBundle bs → list_all has_constants bs ≡ true
+all_words : (bs : List PlainBundle) → All FitsBundle bs → list_all has_constants bs ≡ true
 all_words [] fits = refl
 all_words (b ∷ bs) fits =
     let one : FitsBundle b = fits 0 b (omega arith) in
@@ -39,7 +39,7 @@ all_words (b ∷ bs) fits =
 
 -- ---- targets
 
-branch_word : (words : ℕ) (b : Slots) → has_constants (branch_back words b) ≡ has_constants b
+branch_word : (words : ℕ) (b : PlainBundle) → has_constants (branch_back words b) ≡ has_constants b
 branch_word words b = so b.first.op
   where
     so : (op : Op) → has_constants (branch_back words (with_op op b))
@@ -47,7 +47,7 @@ branch_word words b = so b.first.op
     so (Branch by) = refl
     so _ = refl
 
-call_word : (start : ℕ) (b : Slots) → has_constants (call_to start b) ≡ has_constants b
+call_word : (start : ℕ) (b : PlainBundle) → has_constants (call_to start b) ≡ has_constants b
 call_word start b = so b.first.op
   where
     so : (op : Op) → has_constants (call_to start (with_op op b))
@@ -55,13 +55,15 @@ call_word start b = so b.first.op
     so (Call target) = refl
     so _ = refl
 
-turned_words : (words : ℕ) (bs : List Slots) → list_all has_constants (turned words bs) ≡ list_all has_constants bs
+turned_words : (words : ℕ) (bs : List PlainBundle) → list_all has_constants (turned words bs)
+    ≡ list_all has_constants bs
 turned_words words [] = refl
 turned_words words (b ∷ bs) =
     ap (λ x. x && list_all has_constants (turned (words + bundle_words b) bs)) (branch_word words b)
     ∙ ap (λ x. has_constants b && x) (turned_words (words + bundle_words b) bs)
 
-called_words : (start : ℕ) (bs : List Slots) → list_all has_constants (called start bs) ≡ list_all has_constants bs
+called_words : (start : ℕ) (bs : List PlainBundle) → list_all has_constants (called start bs)
+    ≡ list_all has_constants bs
 called_words start [] = refl
 called_words start (b ∷ bs) = ap (λ x. x && list_all has_constants bs) (call_word start b)
 
@@ -105,12 +107,12 @@ second_fits : (o : Option Instr) → second_constant o ≡ true → IfSome o (λ
 second_fits None h = tt
 second_fits (Some i) h = ltb-true (constant_of i.op) (2 ^ 32) h
 
-one_fits : (b : Slots) → has_constants b ≡ true → ConstantsFit b
+one_fits : (b : PlainBundle) → has_constants b ≡ true → ConstantsFit b
 one_fits b h =
     let p = and_parts (nat_lt (constant_of b.first.op) (2 ^ 32)) (second_constant b.second) h in
     record { first = ltb-true (constant_of b.first.op) (2 ^ 32) p.0; second = second_fits b.second p.1 }
 
-fit_all : (bs : List Slots) → list_all has_constants bs ≡ true → AllFit (all_done bs)
+fit_all : (bs : List PlainBundle) → list_all has_constants bs ≡ true → AllFit (all_done bs)
 fit_all [] h = tt
 fit_all (b ∷ bs) h =
     let p = and_parts (has_constants b) (list_all has_constants bs) h in (one_fits b p.0, fit_all bs p.1)

@@ -4,7 +4,7 @@ use Rattle.std.proofs.Math.ListN.{get_or-eq_default}
 use Rattle.std.proofs.lemmas.Bool.{and_parts, cases_lt}
 use Rattle.std.specs.List.{list_all}
 use Rattle.patmos_code.specs.Images.{Parts}
-use Rattle.patmos_instr.specs.Bundles.{Slots}
+use Rattle.patmos_instr.specs.Bundles.{PlainBundle}
 use Rattle.patmos_instr.specs.declared.instructions.Op.{Op}
 use Rattle.patmos_instr.specs.declared.instructions.Op.TheVariants.{Load, Store, Stack}
 use Rattle.patmos_instr.specs.declared.memories.Mem.TheVariants as mem
@@ -55,7 +55,7 @@ told false (Store mem.M width ra rs imm) regs rest h = absurd (true≢false (sym
 told false (Stack func count) regs rest h = absurd (true≢false (sym (h refl)))
 told false _ regs rest h = record { event = refl; left = refl }
 
-steady_on : (b : Slots) (regs : Registers) → FitsRegisters regs → is_steady b ≡ true → may_move b.first.op ≡ true
+steady_on : (b : PlainBundle) (regs : Registers) → FitsRegisters regs → is_steady b ≡ true → may_move b.first.op ≡ true
     → holds regs b.first.guard ≡ true
 steady_on b regs fits steady moves =
     always_holds b.first.guard regs fits (sym (ap (λ t. if t then is_always b.first.guard else true) moves) ∙ steady)
@@ -84,7 +84,7 @@ steady_append [] ys a b = b
 steady_append (does x ∷ xs) ys a b = (a.0, steady_append xs ys a.1 b)
 steady_append (begins ∷ xs) ys a b = steady_append xs ys a b
 
-steady_all : (bs : List Slots) → list_all is_steady bs ≡ true → AreSteady (all_done bs)
+steady_all : (bs : List PlainBundle) → list_all is_steady bs ≡ true → AreSteady (all_done bs)
 steady_all [] h = tt
 steady_all (b ∷ bs) h = let p = and_parts (is_steady b) (list_all is_steady bs) h in (p.0, steady_all bs p.1)
 

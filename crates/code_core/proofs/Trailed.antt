@@ -7,7 +7,7 @@ use Rattle.patmos_model.specs.declared.flow.Flow.{Flow}
 use Rattle.patmos_model.specs.declared.flow.Goal.{Goal}
 use Rattle.patmos_model.specs.declared.flow.Goal.TheVariants as goal
 use Rattle.patmos_model.specs.State.{Core}
-use Rattle.patmos_instr.specs.Bundles.{Slots}
+use Rattle.patmos_instr.specs.Bundles.{PlainBundle}
 use Rattle.patmos_instr.specs.declared.instructions.Op.{Op}
 use Rattle.patmos_instr.specs.declared.instructions.Op.TheVariants.{Branch, Call}
 use Rattle.patmos_sem.specs.Bundles.{effect_of}
@@ -102,7 +102,7 @@ placed_first image begins more ds w e h = h.placed
 
 -- of what is said of an effect, wherever a flow goes
 aimless_same : (Said : Effect → Type 0) → ((f g : FlowKind) → Said (effect.Flow f) ≡ Said (effect.Flow g))
-    → (op : Op) (b : Slots) (regs : Registers)
+    → (op : Op) (b : PlainBundle) (regs : Registers)
     → Said (effect_of (with_op (aimless op) b) regs) ≡ Said (effect_of (with_op op b) regs)
 aimless_same Said flows (Branch offset) b regs = by (holds regs b.first.guard)
   where
@@ -119,17 +119,17 @@ aimless_same Said flows (Call target) b regs = by (holds regs b.first.guard)
 aimless_same Said flows _ b regs = refl
 
 pub said_same : (Said : Effect → Type 0) → ((f g : FlowKind) → Said (effect.Flow f) ≡ Said (effect.Flow g))
-    → (b c : Slots) (regs : Registers) → erased c ≡ erased b → Said (effect_of b regs) → Said (effect_of c regs)
+    → (b c : PlainBundle) (regs : Registers) → erased c ≡ erased b → Said (effect_of b regs) → Said (effect_of c regs)
 said_same Said flows b c regs same s =
     subst (λ (T : Type 0). T) (aimless_same Said flows c.first.op c regs)
     (subst (λ x. Said (effect_of x regs)) (sym same)
     (subst (λ (T : Type 0). T) (sym (aimless_same Said flows b.first.op b regs)) s))
 
-event_same : (b c : Slots) (regs : Registers) → erased c ≡ erased b → event_of (effect_of c regs)
+event_same : (b c : PlainBundle) (regs : Registers) → erased c ≡ erased b → event_of (effect_of c regs)
     ≡ event_of (effect_of b regs)
 event_same b c regs same = said_same (λ e. event_of e ≡ event_of (effect_of b regs)) (λ f g. refl) b c regs same refl
 
-pub sound_same : (b c : Slots) (regs : Registers) (site : Site) (p : Pointers) (m : Memory) → erased c ≡ erased b
+pub sound_same : (b c : PlainBundle) (regs : Registers) (site : Site) (p : Pointers) (m : Memory) → erased c ≡ erased b
     → IsSound site (effect_of b regs) p m → IsSound site (effect_of c regs) p m
 sound_same b c regs site p m = said_same (λ e. IsSound site e p m) (λ f g. refl) b c regs
 

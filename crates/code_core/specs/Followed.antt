@@ -1,7 +1,7 @@
 -- To be believed. What a core that follows its code comes to.
 use Rattle.std.specs.Prelude.{◌≡◌, ℕ, ◌∷◌, [], List, false}
 use Rattle.patmos_code.specs.Images.{Parts}
-use Rattle.patmos_instr.specs.Bundles.{Slots}
+use Rattle.patmos_instr.specs.Bundles.{PlainBundle}
 use Rattle.patmos_model.specs.Apart.{site_of}
 use Rattle.patmos_model.specs.Begin.{begun}
 use Rattle.patmos_model.specs.Bundle.{fetched_at}
@@ -27,8 +27,8 @@ abbrev pub done_at : Moment → Done
 done_at m = record { base = (core_in m).plain.base; offset = (core_in m).plain.offset; cycle = m.cycle }
 
 -- the bundle that stands where one was done is that of the code, but for the target of a branch or a call
-pub record IsDoneAs (image : Parts) (b : Slots) (d : Done) : Type 0 where
-  pub bundle : Slots
+pub record IsDoneAs (image : Parts) (b : PlainBundle) (d : Done) : Type 0 where
+  pub bundle : PlainBundle
   pub words : ℕ
   pub found : fetched_at image d.base d.offset ≡ Found bundle words
   pub same : erased bundle ≡ erased b

@@ -1,7 +1,7 @@
 -- To be believed. Words of 32 bits: what a run holds, and what the constants of its bundles are.
 use Rattle.std.specs.Prelude.{ℕ, ◌^◌, ◌&&◌, Bool, true, nat_lt, List, [], ◌∷◌, Option, None, Some}
 use Rattle.std.specs.List.{AllByRecursion as Each}
-use Rattle.patmos_instr.specs.Bundles.{Slots}
+use Rattle.patmos_instr.specs.Bundles.{PlainBundle}
 use Rattle.patmos_instr.specs.declared.instructions.Instr.{Instr}
 use Rattle.patmos_model.specs.Range.{IsWord, HasWords, ConstantsFit, constant_of}
 use Rattle.sp_shape.specs.Run.{Run, Back}
@@ -26,7 +26,7 @@ abbrev pub second_constant : Option Instr → Bool
 second_constant None = true
 second_constant (Some i) = nat_lt (constant_of i.op) (2 ^ 32)
 
-abbrev pub has_constants : Slots → Bool
+abbrev pub has_constants : PlainBundle → Bool
 has_constants b = nat_lt (constant_of b.first.op) (2 ^ 32) && second_constant b.second
 
 abbrev pub AllFit : List Step → Type 0

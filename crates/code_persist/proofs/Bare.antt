@@ -1,7 +1,7 @@
 -- What the events of a trail cost without the method cache: what its bundles take at most.
 use Rattle.std.proofs.Common.{◌≡◌, ℕ, zero, suc, ◌+◌, ◌*◌, ◌≤◌, ◌==◌, if◌then◌else◌, Bool, true, false, List, [], ◌∷◌, ◌++◌, slice_index_or, Option, None, Some, refl, ap, ◌∙◌, arith}
 use Rattle.patmos_code.specs.Images.{Parts}
-use Rattle.patmos_instr.specs.Bundles.{Slots}
+use Rattle.patmos_instr.specs.Bundles.{PlainBundle}
 use Rattle.patmos_instr.specs.declared.instructions.Op.{Op}
 use Rattle.patmos_instr.specs.declared.instructions.Op.TheVariants.{Load, Store, Stack}
 use Rattle.patmos_instr.specs.declared.memories.Mem.TheVariants as mem
@@ -69,7 +69,7 @@ module _ (each : ℕ) where
   joined_bound (does b ∷ xs) ys = let rest = joined_bound xs ys in omega (arith, rest)
   joined_bound (begins ∷ xs) ys = joined_bound xs ys
 
-  done_bound : (bs : List Slots) → steps_bound each (all_done bs) ≡ bundles_bound each bs
+  done_bound : (bs : List PlainBundle) → steps_bound each (all_done bs) ≡ bundles_bound each bs
   done_bound [] = refl
   done_bound (b ∷ bs) = let rest = done_bound bs in omega (arith, rest)
 

@@ -4,7 +4,7 @@ use Rattle.std.proofs.lemmas.Bool.{and_parts, or_left, or_right, eqb-true, eqb-f
 use Rattle.std.specs.List.{Contains}
 use Rattle.method_cache.specs.declared.cache.Method.{Method}
 use Rattle.patmos_code.specs.Images.{Parts}
-use Rattle.patmos_instr.specs.Bundles.{Slots}
+use Rattle.patmos_instr.specs.Bundles.{PlainBundle}
 use Rattle.patmos_instr.specs.declared.instructions.Op.{Op}
 use Rattle.patmos_instr.specs.declared.instructions.Op.TheVariants.{Load, Store, Stack}
 use Rattle.patmos_instr.specs.declared.memories.Mem.TheVariants as mem
@@ -88,11 +88,11 @@ module _ (image : Parts) (all : List Method) where
   joined_for [] ys a b = b
   joined_for (x ∷ xs) ys a b = (a.0, joined_for xs ys a.1 b)
 
-  undue_for : (bs : List Slots) → AreFor all image (undue bs)
+  undue_for : (bs : List PlainBundle) → AreFor all image (undue bs)
   undue_for [] = tt
   undue_for (b ∷ bs) = (tt, undue_for bs)
 
-  way_for : (to : Goal) (bs : List Slots) → AreAmong all (goal_events image (Some to))
+  way_for : (to : Goal) (bs : List PlainBundle) → AreAmong all (goal_events image (Some to))
       → AreFor all image (way_dues to bs)
   way_for to [] h = tt
   way_for to (b ∷ bs) h = (by (length bs), way_for to bs h)
@@ -101,7 +101,7 @@ module _ (image : Parts) (all : List Method) where
       by zero = h
       by (suc n) = tt
 
-  iteration_for : (at : ℕ) (bs : List Slots) → AreFor all image (iteration_dues (goal.Within at) bs)
+  iteration_for : (at : ℕ) (bs : List PlainBundle) → AreFor all image (iteration_dues (goal.Within at) bs)
   iteration_for at [] = tt
   iteration_for at (b ∷ bs) = by (iteration_for at bs) (is_branch b.first.op)
     where

@@ -1,7 +1,7 @@
 -- Bundles and transactions add up to the bound.
 use Rattle.std.proofs.Common.{arith, ◌≡◌, ◌∙◌, ℕ, zero, suc, ◌+◌, ◌*◌, ◌≤◌, ◌==◌, Bool, true, false, if◌then◌else◌, List, [], ◌∷◌, length, slice_index_or, refl, sym, ap, subst}
 use Rattle.std.proofs.lemmas.Grind.{common_steps}
-use Rattle.patmos_instr.specs.Bundles.{Slots}
+use Rattle.patmos_instr.specs.Bundles.{PlainBundle}
 use Rattle.sp_shape.specs.Parts.{PlainPart, straight, repeats, calls_to, leaves, PlainParts, no_part, part, PlainShape}
 use Rattle.sp_shape.specs.Formed.{is_formed, functions_formed}
 use Rattle.sp_shape.specs.Shown.{functions_of, plain_shape}
@@ -17,7 +17,7 @@ use Rattle.code_text.specs.declared.tallies.Runs.{Runs}
 use Rattle.cycle_bound.specs.Bound.{bundles_bound, fill_moves, part_bound, parts_bound, bounds, fill_bound, shape_bound}
 use Rattle.code_text.specs.Tally.{part_bundles, parts_bundles, run_bundles, bundles_moves, part_moves, parts_moves, run_moves, task_bundles, task_moves}
 
-bundles_add : (e : ℕ) (bs : List Slots) → bundles_bound e bs ≡ length bs + e * bundles_moves bs
+bundles_add : (e : ℕ) (bs : List PlainBundle) → bundles_bound e bs ≡ length bs + e * bundles_moves bs
 bundles_add e [] = grind (arith, common_steps)
 bundles_add e (b ∷ bs) = let rest = bundles_add e bs in grind (arith, common_steps, rest)
 
@@ -62,7 +62,7 @@ tasks_add e s = let run = runs_add s.functions e (length s.functions) s.entry in
 
 -- without transactions, bundles alone are left
 module _ (own : ℕ) (g b : ℕ → ℕ) (same : (k : ℕ) → g k ≡ b k) where
-  bundles_alone : (bs : List Slots) → bundles_bound 0 bs ≡ length bs
+  bundles_alone : (bs : List PlainBundle) → bundles_bound 0 bs ≡ length bs
   bundles_alone [] = refl
   bundles_alone (s ∷ bs) = let rest = bundles_alone bs in grind (arith, common_steps, rest)
 

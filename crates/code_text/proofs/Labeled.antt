@@ -7,7 +7,7 @@ use Rattle.patmos_instr.specs.declared.instructions.Op.TheVariants as op
 use Rattle.patmos_syntax.specs.Drafts.{is_long_draft, size_of}
 use Rattle.sp_shape.specs.Formed.{is_iteration, part_formed, parts_formed, function_formed}
 use Rattle.std.specs.Fmt.{decimal}
-use Rattle.patmos_instr.specs.Bundles.{Slots}
+use Rattle.patmos_instr.specs.Bundles.{PlainBundle}
 use Rattle.patmos_syntax.specs.Items.{Item}
 use Rattle.patmos_asm.specs.Assembly.{Lookup, Places, place_of, labels_from}
 use Rattle.patmos_asm.specs.Printed.{label_name}
@@ -122,7 +122,7 @@ function_known ps small = subst (λ qs. AreKnown (place_of qs) 0 0 ps) (append-n
 -- ---- they rise
 
 module _ (names : List (List ℕ)) (words : List ℕ) where
-  rise_bundles : (n : ℕ) (aim : Aim) (at : ℕ) (bs : List Slots) (ls : List Line) → Rise n ls
+  rise_bundles : (n : ℕ) (aim : Aim) (at : ℕ) (bs : List PlainBundle) (ls : List Line) → Rise n ls
       → Rise n (bundle_lines names words aim at bs ++ ls)
   rise_bundles n aim at [] ls r = r
   rise_bundles n aim at (b ∷ bs) ls r = rise_bundles n aim (at + bundle_words b) bs ls r
@@ -161,7 +161,7 @@ module _ (names : List (List ℕ)) (words : List ℕ) where
 
   -- ---- comments end on their line
 
-  inline_bundles : (aim : Aim) (at : ℕ) (bs : List Slots) → AreInline (bundle_lines names words aim at bs)
+  inline_bundles : (aim : Aim) (at : ℕ) (bs : List PlainBundle) → AreInline (bundle_lines names words aim at bs)
   inline_bundles aim at [] = tt
   inline_bundles aim at (b ∷ bs) = (note_inline words at (bundle_words b), inline_bundles aim (at + bundle_words b) bs)
 
@@ -230,17 +230,18 @@ aimed_long names (Loop loop) (op.Branch z) = refl
 aimed_long names (Entry k) (op.Call n) = refl
 aimed_long names aim o = refl
 
-draft_size : (names : List (List ℕ)) (aim : Aim) (b : Slots) → size_of (draft_of names aim b) ≡ bundle_words b
+draft_size : (names : List (List ℕ)) (aim : Aim) (b : PlainBundle) → size_of (draft_of names aim b) ≡ bundle_words b
 draft_size names aim b = ap (λ t. if t || is_some b.second then 2 else 1) (aimed_long names aim b.first.op)
 
 module _ (names : List (List ℕ)) (words : List ℕ) where
-  bundles_words_in : (aim : Aim) (at : ℕ) (bs : List Slots) → words_in (bundle_lines names words aim at bs)
+  bundles_words_in : (aim : Aim) (at : ℕ) (bs : List PlainBundle) → words_in (bundle_lines names words aim at bs)
       ≡ bundles_words bs
   bundles_words_in aim at [] = refl
   bundles_words_in aim at (b ∷ bs) =
       omega (arith, draft_size names aim b, bundles_words_in aim (at + bundle_words b) bs)
 
-  bundles_labels : (aim : Aim) (at off : ℕ) (bs : List Slots) → labels_in off (bundle_lines names words aim at bs) ≡ []
+  bundles_labels : (aim : Aim) (at off : ℕ) (bs : List PlainBundle) → labels_in off (bundle_lines names words aim at bs)
+      ≡ []
   bundles_labels aim at off [] = refl
   bundles_labels aim at off (b ∷ bs) =
       bundles_labels aim (at + bundle_words b) (off + size_of (draft_of names aim b)) bs
@@ -299,7 +300,8 @@ module _ (names : List (List ℕ)) (words : List ℕ) where
         ∙ ap (λ ps. marks_in at loop p ++ ps) (parts_labels (at + part_words p) (loop + part_loops p) rest)
 
 -- the assembler finds them
-pub stand_labels : (functions labels : Lookup) (rest : List Item) (line at off : ℕ) (ls : List Line) (bs : List Slots)
+pub stand_labels : (functions labels : Lookup) (rest : List Item) (line at off : ℕ) (ls : List Line)
+    (bs : List PlainBundle)
     → Stand functions labels at ls bs
     → labels_from off (items_at line ls ++ rest) ≡ labels_in off ls ++ labels_from (off + bundles_words bs) rest
 stand_labels functions labels rest line at off [] [] s = ap (λ n. labels_from n rest) (omega arith)
@@ -316,7 +318,7 @@ stand_labels functions labels rest line at off (does b note ∷ ls) (x ∷ bs) s
     ∙ ap (λ n. labels_in (off + size_of b) ls ++ labels_from n rest) (omega (arith, size))
 
 -- each loop has a word, so that labels are few
-iteration_some : (tail : List Slots) → is_iteration tail ≡ true → 1 ≤ bundles_words tail
+iteration_some : (tail : List PlainBundle) → is_iteration tail ≡ true → 1 ≤ bundles_words tail
 iteration_some [] e = cc
 iteration_some (b ∷ bs) e = grind arith
 

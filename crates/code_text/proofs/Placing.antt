@@ -3,7 +3,7 @@ use Rattle.std.proofs.Common.{arith, ◌≡◌, ◌∙◌, ℕ, pos, ◌+◌, �
 use Rattle.std.specs.Prelude.{unwrap_or}
 use Rattle.std.proofs.lemmas.Bool.{and_parts, ltb-true}
 use Rattle.std.proofs.lemmas.Int.{ints}
-use Rattle.patmos_instr.specs.Bundles.{Slots}
+use Rattle.patmos_instr.specs.Bundles.{PlainBundle}
 use Rattle.patmos_instr.specs.declared.instructions.Op.{Op}
 use Rattle.patmos_instr.specs.declared.instructions.Op.TheVariants as op
 use Rattle.patmos_forms.specs.Readers.{is_name}
@@ -53,7 +53,7 @@ aimed_calm names (Loop loop) (op.Branch z) e = cc
 aimed_calm names (Entry k) (op.Call n) e = cc
 aimed_calm names aim o e = refl
 
-stand_end : (functions labels : Lookup) (at : ℕ) (ls : List Line) (bs : List Slots) (note : List ℕ)
+stand_end : (functions labels : Lookup) (at : ℕ) (ls : List Line) (bs : List PlainBundle) (note : List ℕ)
     → Stand functions labels at ls bs → Stand functions labels at (ls ++ remark note ∷ []) bs
 stand_end functions labels at [] [] note s = tt
 stand_end functions labels at [] (x ∷ bs) note s = absurd s
@@ -65,7 +65,7 @@ stand_end functions labels at (does b n ∷ ls) (x ∷ bs) note s =
     (s.0, stand_end functions labels (at + bundle_words x) ls bs note s.1)
 
 module _ (names : List (List ℕ)) (words : List ℕ) (functions labels : Lookup) where
-  plain_stands : (at : ℕ) (b : Slots) (d : Draft) → d ≡ ready b.first.op → forms.is_flow b.first.op ≡ false
+  plain_stands : (at : ℕ) (b : PlainBundle) (d : Draft) → d ≡ ready b.first.op → forms.is_flow b.first.op ≡ false
       → StandsFor functions labels at (record {
         first = record { guard = b.first.guard; draft = d };
         second = b.second;
@@ -77,7 +77,7 @@ module _ (names : List (List ℕ)) (words : List ℕ) (functions labels : Lookup
       }) b) (sym e)
       (record { is = refl; known = refl; named = plain; size = refl })
 
-  calm_stands : (aim : Aim) (at : ℕ) (bs : List Slots) → are_calm bs ≡ true
+  calm_stands : (aim : Aim) (at : ℕ) (bs : List PlainBundle) → are_calm bs ≡ true
       → Stand functions labels at (bundle_lines names words aim at bs) bs
   calm_stands aim at [] e = tt
   calm_stands aim at (b ∷ bs) e =
@@ -89,21 +89,22 @@ module _ (names : List (List ℕ)) (words : List ℕ) (functions labels : Lookup
 
   -- ---- the tail of a loop
 
-  back_calm : (behind : ℕ) (b : Slots) → not (is_flow b.first.op) ≡ true → branch_back behind b ≡ b
+  back_calm : (behind : ℕ) (b : PlainBundle) → not (is_flow b.first.op) ≡ true → branch_back behind b ≡ b
   back_calm behind b e = so b.first.op e
     where
       so : (o : Op) → not (is_flow o) ≡ true → branch_back behind (with_op o b) ≡ with_op o b
       so (op.Branch z) e = cc
       so _ e = refl
 
-  turned_calm : (behind : ℕ) (bs : List Slots) → are_calm bs ≡ true → turned behind bs ≡ bs
+  turned_calm : (behind : ℕ) (bs : List PlainBundle) → are_calm bs ≡ true → turned behind bs ≡ bs
   turned_calm behind [] e = refl
   turned_calm behind (b ∷ bs) e =
       let t = and_parts (not (is_flow b.first.op)) (are_calm bs) e in
       ap (λ x. x ∷ turned (behind + bundle_words b) bs) (back_calm behind b t.0)
       ∙ ap (λ xs. b ∷ xs) (turned_calm (behind + bundle_words b) bs t.1)
 
-  branch_stands : (loop begin behind at : ℕ) (b : Slots) → labels (label_name loop) ≡ Some begin → loop < 2 ^ 63 → at
+  branch_stands : (loop begin behind at : ℕ) (b : PlainBundle) → labels (label_name loop) ≡ Some begin
+      → loop < 2 ^ 63 → at
       ≡ begin + behind → is_branch b.first.op ≡ true
       → StandsFor functions labels at (draft_of names (Loop loop) b) (branch_back behind b)
   branch_stands loop begin behind at b found small here e = so b.first.op e
@@ -119,17 +120,18 @@ module _ (names : List (List ℕ)) (words : List ℕ) (functions labels : Lookup
       }
       so _ e = cc
 
-  slots_calm : (count : ℕ) (bs : List Slots) → are_delay_slots count bs ≡ true → are_calm bs ≡ true
+  slots_calm : (count : ℕ) (bs : List PlainBundle) → are_delay_slots count bs ≡ true → are_calm bs ≡ true
   slots_calm count bs e = (and_parts (length bs == count) (are_calm bs) e).1
 
-  back_words : (behind : ℕ) (b : Slots) → bundle_words (branch_back behind b) ≡ bundle_words b
+  back_words : (behind : ℕ) (b : PlainBundle) → bundle_words (branch_back behind b) ≡ bundle_words b
   back_words behind b = so b.first.op
     where
       so : (o : Op) → bundle_words (branch_back behind (with_op o b)) ≡ bundle_words (with_op o b)
       so (op.Branch z) = refl
       so _ = refl
 
-  iteration_first : (t : Bool) (loop begin behind at : ℕ) (b : Slots) (bs : List Slots) → is_branch b.first.op ≡ t
+  iteration_first : (t : Bool) (loop begin behind at : ℕ) (b : PlainBundle) (bs : List PlainBundle)
+      → is_branch b.first.op ≡ t
       → labels (label_name loop) ≡ Some begin → loop < 2 ^ 63 → at ≡ begin + behind
       → (is_iteration bs ≡ true → Stand functions labels (at + bundle_words b) (bundle_lines names words (Loop loop)
       (at + bundle_words b) bs) (turned (behind + bundle_words b) bs))
@@ -154,7 +156,7 @@ module _ (names : List (List ℕ)) (words : List ℕ) (functions labels : Lookup
         more t.1,
       )
 
-  iteration_stands : (loop begin behind at : ℕ) (bs : List Slots) → labels (label_name loop) ≡ Some begin
+  iteration_stands : (loop begin behind at : ℕ) (bs : List PlainBundle) → labels (label_name loop) ≡ Some begin
       → loop < 2 ^ 63 → at ≡ begin + behind → is_iteration bs ≡ true
       → Stand functions labels at (bundle_lines names words (Loop loop) at bs) (turned behind bs)
   iteration_stands loop begin behind at [] found small here e = tt
@@ -165,7 +167,8 @@ module _ (names : List (List ℕ)) (words : List ℕ) (functions labels : Lookup
 
   -- ---- calls and returns
 
-  call_stands : (k start at : ℕ) (b : Slots) → functions (name_of names k) ≡ Some start → is_name (name_of names k)
+  call_stands : (k start at : ℕ) (b : PlainBundle) → functions (name_of names k) ≡ Some start
+      → is_name (name_of names k)
       ≡ true → is_call b.first.op ≡ true
       → StandsFor functions labels at (draft_of names (Entry k) b) (call_to start b) × (bundle_words (call_to start b)
       ≡ bundle_words b)
@@ -184,13 +187,13 @@ module _ (names : List (List ℕ)) (words : List ℕ) (functions labels : Lookup
       )
       so _ e = cc
 
-  way_parts : (is_it : Op → Bool) (b : Slots) (bs : List Slots) → is_way is_it (b ∷ bs) ≡ true
+  way_parts : (is_it : Op → Bool) (b : PlainBundle) (bs : List PlainBundle) → is_way is_it (b ∷ bs) ≡ true
       → (is_it b.first.op ≡ true) × (are_calm bs ≡ true)
   way_parts is_it b bs e =
       let t = and_parts (is_it b.first.op) (is_always b.first.guard && are_delay_slots 3 bs) e in
       (t.0, slots_calm 3 bs (and_parts (is_always b.first.guard) (are_delay_slots 3 bs) t.1).1)
 
-  entry_stands : (k start at : ℕ) (bs : List Slots) → functions (name_of names k) ≡ Some start
+  entry_stands : (k start at : ℕ) (bs : List PlainBundle) → functions (name_of names k) ≡ Some start
       → is_name (name_of names k) ≡ true → is_way is_call bs ≡ true
       → Stand functions labels at (bundle_lines names words (Entry k) at bs) (called start bs)
   entry_stands k start at [] found named e = tt
@@ -202,7 +205,7 @@ module _ (names : List (List ℕ)) (words : List ℕ) (functions labels : Lookup
             bs) (sym c.1) (calm_stands (Entry k) (at + bundle_words b) bs t.1),
       )
 
-  return_stands : (at : ℕ) (bs : List Slots) → is_way is_return bs ≡ true
+  return_stands : (at : ℕ) (bs : List PlainBundle) → is_way is_return bs ≡ true
       → Stand functions labels at (bundle_lines names words Onward at bs) bs
   return_stands at [] e = tt
   return_stands at (b ∷ bs) e =

@@ -2,7 +2,7 @@
 use Rattle.std.proofs.Common.{arith, ◌≡◌, ◌∙◌, ℕ, ◌+◌, ◌^◌, ◌<◌, ◌≤◌, ◌==◌, not, Bool, true, false, List, [], ◌∷◌, ◌++◌, length, refl, sym, ap, subst, append_assoc, Option, Some, None, IsTrue, ◌&&◌}
 use Rattle.std.specs.List.{All}
 use Rattle.std.proofs.lemmas.List.Elements.{All-head, All-tail}
-use Rattle.patmos_instr.specs.Bundles.{Slots, FitsBundle}
+use Rattle.patmos_instr.specs.Bundles.{PlainBundle, FitsBundle}
 use Rattle.patmos_instr.specs.Instructions.{is_long, is_second_kind, FitsOp}
 use Rattle.patmos_instr.specs.declared.guards.Guard.{Guard}
 use Rattle.patmos_forms.specs.declared.forms.JumpKind.TheVariants.{Branch, Call, BranchFill}
@@ -28,14 +28,14 @@ IsNamed (ready o) = is_flow o ≡ false
 IsNamed (to flow name) = is_name name ≡ true
 
 -- the bundle of a line is this one, once names have their places
-pub record StandsFor (functions labels : Lookup) (at : ℕ) (b : DraftBundle) (s : Slots) : Type 0 where
+pub record StandsFor (functions labels : Lookup) (at : ℕ) (b : DraftBundle) (s : PlainBundle) : Type 0 where
   pub is : placed functions labels at b ≡ s
   pub known : is_known functions labels b.first.draft ≡ true
   pub named : IsNamed b.first.draft
   pub size : size_of b ≡ bundle_words s
 
 -- lines of a function at an offset stand for these bundles
-abbrev pub Stand : Lookup → Lookup → ℕ → List Line → List Slots → Type 0
+abbrev pub Stand : Lookup → Lookup → ℕ → List Line → List PlainBundle → Type 0
 Stand functions labels at [] [] = Unit {0}
 Stand functions labels at [] (s ∷ bs) = ⊥
 Stand functions labels at (remark note ∷ ls) bs = Stand functions labels at ls bs
@@ -45,7 +45,7 @@ Stand functions labels at (does b note ∷ ls) [] = ⊥
 Stand functions labels at (does b note ∷ ls) (s ∷ bs) =
     StandsFor functions labels at b s × Stand functions labels (at + bundle_words s) ls bs
 
-pub stand_both : (functions labels : Lookup) (at : ℕ) (ls ms : List Line) (bs cs : List Slots)
+pub stand_both : (functions labels : Lookup) (at : ℕ) (ls ms : List Line) (bs cs : List PlainBundle)
     → Stand functions labels at ls bs → Stand functions labels (at + bundles_words bs) ms cs
     → Stand functions labels at (ls ++ ms) (bs ++ cs)
 stand_both functions labels at [] ms [] cs s t = subst (λ n. Stand functions labels n ms cs) (omega arith) t
@@ -63,7 +63,7 @@ stand_both functions labels at (does b note ∷ ls) ms [] cs s t = absurd s
 -- ---- sizes, functions, names, words
 
 module _ (functions labels : Lookup) (rest : List Item) where
-  pub stand_size : (line at : ℕ) (ls : List Line) (bs : List Slots) → Stand functions labels at ls bs
+  pub stand_size : (line at : ℕ) (ls : List Line) (bs : List PlainBundle) → Stand functions labels at ls bs
       → size_from (items_at line ls ++ rest) ≡ bundles_words bs + size_from rest
   stand_size line at [] [] s = omega arith
   stand_size line at [] (x ∷ bs) s = absurd s
@@ -74,7 +74,7 @@ module _ (functions labels : Lookup) (rest : List Item) where
   stand_size line at (does b note ∷ ls) (x ∷ bs) s = let size = s.0.size in let more = stand_size (line + 1)
       (at + bundle_words x) ls bs s.1 in omega (arith, size, more)
 
-  pub stand_names : (line at : ℕ) (ls : List Line) (bs : List Slots) → Stand functions labels at ls bs
+  pub stand_names : (line at : ℕ) (ls : List Line) (bs : List PlainBundle) → Stand functions labels at ls bs
       → names_from (items_at line ls ++ rest) ≡ names_from rest
   stand_names line at [] [] s = refl
   stand_names line at [] (x ∷ bs) s = absurd s
@@ -84,7 +84,7 @@ module _ (functions labels : Lookup) (rest : List Item) where
   stand_names line at (does b note ∷ ls) [] s = absurd s
   stand_names line at (does b note ∷ ls) (x ∷ bs) s = stand_names (line + 1) (at + bundle_words x) ls bs s.1
 
-  pub stand_functions : (line at place : ℕ) (ls : List Line) (bs : List Slots) → Stand functions labels at ls bs
+  pub stand_functions : (line at place : ℕ) (ls : List Line) (bs : List PlainBundle) → Stand functions labels at ls bs
       → functions_from place (items_at line ls ++ rest) ≡ functions_from (place + bundles_words bs) rest
   stand_functions line at place [] [] s = ap (λ n. functions_from n rest) (omega arith)
   stand_functions line at place [] (x ∷ bs) s = absurd s
@@ -96,7 +96,7 @@ module _ (functions labels : Lookup) (rest : List Item) where
       stand_functions (line + 1) (at + bundle_words x) (place + size_of b) ls bs s.1
       ∙ ap (λ n. functions_from n rest) (let size = s.0.size in omega (arith, size))
 
-  pub stand_words : (line at : ℕ) (ls : List Line) (bs : List Slots) → Stand functions labels at ls bs
+  pub stand_words : (line at : ℕ) (ls : List Line) (bs : List PlainBundle) → Stand functions labels at ls bs
       → words_from functions labels at (items_at line ls ++ rest) ≡ codes bs
       ++ words_from functions labels (at + bundles_words bs) rest
   stand_words line at [] [] s = ap (λ n. words_from functions labels n rest) (omega arith)
@@ -130,7 +130,7 @@ some_function before e = rw e refl
 
 -- lines have no fault where the statements after them have none
 pub stand_faultless : (functions labels : Lookup) (rest : List Item) (line at n : ℕ) (before : Before) (ls : List Line)
-    (bs : List Slots) → Stand functions labels at ls bs → Rise n ls
+    (bs : List PlainBundle) → Stand functions labels at ls bs → Rise n ls
     → before.size ≡ at → before.size + bundles_words bs ≤ 4096 → before.image + bundles_words bs ≤ 32768
     → length before.functions == 0 ≡ false → AreFree n before.labels
     → ((later : Before) → later.functions ≡ before.functions → later.size ≡ before.size + bundles_words bs → later.image
@@ -185,7 +185,7 @@ fits_second functions labels at g (to BranchFill name) (Some i) f =
     (f.second.0, f.second.1, (both_true false (is_second_kind i.op) f.legal).1, refl)
 
 -- a bundle whose fields are in their ranges
-printable : (functions labels : Lookup) (at : ℕ) (b : DraftBundle) (s : Slots) → StandsFor functions labels at b s
+printable : (functions labels : Lookup) (at : ℕ) (b : DraftBundle) (s : PlainBundle) → StandsFor functions labels at b s
     → FitsBundle s → IsPrintable b
 printable functions labels at b s stands fits =
     let f : FitsBundle (placed functions labels at b) = subst FitsBundle (sym stands.is) fits in
@@ -214,7 +214,7 @@ pub readable_both : (ls ms : List Line) → AreReadable ls → AreReadable ms �
 readable_both [] ms a b = b
 readable_both (l ∷ ls) ms a b = (a.0, readable_both ls ms a.1 b)
 
-pub stand_readable : (functions labels : Lookup) (at n : ℕ) (ls : List Line) (bs : List Slots)
+pub stand_readable : (functions labels : Lookup) (at n : ℕ) (ls : List Line) (bs : List PlainBundle)
     → Stand functions labels at ls bs → All FitsBundle bs → AreInline ls → Rise n ls → AreReadable ls
 stand_readable functions labels at n [] bs s f i r = tt
 stand_readable functions labels at n (remark note ∷ ls) bs s f i r =

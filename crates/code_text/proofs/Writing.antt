@@ -3,7 +3,7 @@ use Rattle.std.proofs.Common.{arith, ◌≡◌, ◌∙◌, ℕ, ◌+◌, ◌<◌
 use Rattle.std.proofs.lemmas.Bool.{cases_lt}
 use Rattle.std.proofs.lemmas.List.{drop_all}
 use Rattle.tc_word.proofs.Items.{drop_item}
-use Rattle.patmos_instr.specs.Bundles.{Slots}
+use Rattle.patmos_instr.specs.Bundles.{PlainBundle}
 use Rattle.sp_shape.specs.Shown.{plain_part, parts_of}
 use Rattle.sp_shape.specs.Words.{bundle_words, part_words}
 use Rattle.sp_shape.specs.declared.parts.Part.{Part}
@@ -16,7 +16,7 @@ lines_both [] ms = refl
 lines_both (l ∷ ls) ms =
     ap (λ t. line_text l ++ t) (lines_both ls ms) ∙ sym (append_assoc (line_text l) (lines_text ls) (lines_text ms))
 
-pub bundle_some : (b : Slots) → 1 ≤ bundle_words b
+pub bundle_some : (b : PlainBundle) → 1 ≤ bundle_words b
 bundle_some b = grind arith
 
 five : (a b c d e f : List ℕ) → ((((a ++ b) ++ c) ++ d) ++ e) ++ f ≡ a ++ (b ++ (c ++ (d ++ (e ++ (f ++ [])))))

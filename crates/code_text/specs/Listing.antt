@@ -3,7 +3,7 @@
 use Rattle.std.specs.Prelude.{ℕ, ◌+◌, ◌==◌, if◌then◌else◌, List, [], ◌∷◌, ◌++◌, length, drop, codes, slice_index, slice_index_or, Option, None, Some}
 use Rattle.std.specs.Fmt.{decimal}
 use Rattle.tc_io.specs.Hex.{hex8}
-use Rattle.patmos_instr.specs.Bundles.{Slots}
+use Rattle.patmos_instr.specs.Bundles.{PlainBundle}
 use Rattle.patmos_instr.specs.declared.instructions.Op.{Op}
 use Rattle.patmos_instr.specs.declared.instructions.Op.TheVariants as op
 use Rattle.patmos_instr.specs.declared.functions.StackFunc.TheVariants.{Sres}
@@ -32,7 +32,7 @@ aimed names (Loop loop) (op.Branch offset) = to Branch (label_name loop)
 aimed names (Entry k) (op.Call target) = to Call (name_of names k)
 aimed names _ o = ready o
 
-abbrev pub draft_of : List (List ℕ) → Aim → Slots → DraftBundle
+abbrev pub draft_of : List (List ℕ) → Aim → PlainBundle → DraftBundle
 draft_of names aim b =
     record { first = record { guard = b.first.guard; draft = aimed names aim b.first.op }; second = b.second }
 
@@ -44,7 +44,7 @@ abbrev pub note_of : List ℕ → ℕ → ℕ → List ℕ
 note_of words at size = decimal at ++ codes " " ++ hex8 (slice_index words at) ++ second_note words at size
 
 -- bundles of a function of these words, the first of which stands at this offset
-abbrev pub bundle_lines : List (List ℕ) → List ℕ → Aim → ℕ → List Slots → List Line
+abbrev pub bundle_lines : List (List ℕ) → List ℕ → Aim → ℕ → List PlainBundle → List Line
 bundle_lines names words aim at [] = []
 bundle_lines names words aim at (b ∷ bs) =
     does (draft_of names aim b) (note_of words at (bundle_words b))
@@ -94,7 +94,7 @@ abbrev pub reserve_of : Op → Option ℕ
 reserve_of (op.Stack Sres count) = Some count
 reserve_of _ = None
 
-abbrev pub reserved_in : List Slots → ℕ
+abbrev pub reserved_in : List PlainBundle → ℕ
 reserved_in [] = 0
 reserved_in (b ∷ bs) = elim (reserve_of b.first.op) as (λ _. ℕ) [ Some count ↦ count | None ↦ reserved_in bs ]
 

@@ -2,7 +2,7 @@
 -- They add up to the bound: a cycle for each bundle, and for each transaction the most that one takes.
 use Rattle.std.specs.Prelude.{ℕ, zero, suc, ◌+◌, ◌-◌, ◌*◌, ◌^◌, ◌==◌, nat_le, if◌then◌else◌, List, [], ◌∷◌, length, slice_index_or, Option, Some, None}
 use Rattle.slot_arbiter.specs.declared.place.Place.{Place}
-use Rattle.patmos_instr.specs.Bundles.{Slots}
+use Rattle.patmos_instr.specs.Bundles.{PlainBundle}
 use Rattle.sp_shape.specs.Parts.{PlainPart, straight, repeats, calls_to, leaves, PlainParts, no_part, part, PlainShape}
 use Rattle.cycle_bound.specs.Bound.{op_moves, fill_moves}
 use Rattle.cycle_bound.specs.Gap.{gap}
@@ -37,7 +37,7 @@ run_bundles fs (suc n) k =
 
 -- ---- transactions
 
-abbrev pub bundles_moves : List Slots → ℕ
+abbrev pub bundles_moves : List PlainBundle → ℕ
 bundles_moves [] = 0
 bundles_moves (b ∷ bs) = op_moves b.first.op + bundles_moves bs
 

@@ -4,7 +4,7 @@ use Rattle.std.specs.Prelude.{nat_le}
 use Rattle.std.proofs.lemmas.Bool.{and_parts, eqb-false, ne_eqb, ltb-true}
 use Rattle.method_cache.specs.Residents.{resident, is_among, touched}
 use Rattle.patmos_code.specs.Images.{Parts}
-use Rattle.patmos_instr.specs.Bundles.{Slots}
+use Rattle.patmos_instr.specs.Bundles.{PlainBundle}
 use Rattle.patmos_instr.specs.declared.functions.StackFunc.TheVariants.{Sres, Sens, Sfree}
 use Rattle.patmos_instr.specs.declared.instructions.Op.{Op}
 use Rattle.patmos_instr.specs.declared.instructions.Op.TheVariants.{Load, Store, Stack}
@@ -200,23 +200,24 @@ module _ (image : Parts) (each : ℕ) where
   other_cost : {xs : List Step} {ds : List (Option Goal)} {a : ℕ} (b : ℕ) → a ≡ b → Costs xs ds a → Costs xs ds b
   other_cost {xs} {ds} b same h = subst (Costs xs ds) same h
 
-  undue_cost : (bs : List Slots) → Costs (all_done bs) (undue bs) (bundles_bound each bs)
+  undue_cost : (bs : List PlainBundle) → Costs (all_done bs) (undue bs) (bundles_bound each bs)
   undue_cost [] = record { fits = tt; is = refl }
   undue_cost (b ∷ bs) = let k = undue_cost bs in record { fits = k.fits; is = (let rest = k.is in omega (arith, rest)) }
 
   -- a flow is due after the last bundle
-  way_cost : (to : Goal) (b : Slots) (bs : List Slots) → Costs (all_done (b ∷ bs)) (way_dues to (b ∷ bs))
+  way_cost : (to : Goal) (b : PlainBundle) (bs : List PlainBundle) → Costs (all_done (b ∷ bs)) (way_dues to (b ∷ bs))
       (bundles_bound each (b ∷ bs) + goal_cost to)
   way_cost to b [] = record { fits = tt; is = omega arith }
   way_cost to b (c ∷ bs) =
       let k = way_cost to c bs in record { fits = k.fits; is = (let rest = k.is in omega (arith, rest)) }
 
-  free_way : (at : ℕ) (bs : List Slots) → Costs (all_done bs) (way_dues (goal.Within at) bs) (bundles_bound each bs)
+  free_way : (at : ℕ) (bs : List PlainBundle) → Costs (all_done bs) (way_dues (goal.Within at) bs)
+      (bundles_bound each bs)
   free_way at [] = record { fits = tt; is = refl }
   free_way at (b ∷ bs) =
       let k = way_cost (goal.Within at) b bs in record { fits = k.fits; is = (let all = k.is in omega (arith, all)) }
 
-  iteration_cost : (at : ℕ) (bs : List Slots) → Costs (all_done bs) (iteration_dues (goal.Within at) bs)
+  iteration_cost : (at : ℕ) (bs : List PlainBundle) → Costs (all_done bs) (iteration_dues (goal.Within at) bs)
       (bundles_bound each bs)
   iteration_cost at [] = record { fits = tt; is = refl }
   iteration_cost at (b ∷ bs) = by (iteration_cost at bs) (is_branch b.first.op)

@@ -2,7 +2,7 @@
 -- its word.
 use Rattle.std.proofs.Common.{◌≡◌, ℕ, true, false, List, [], ◌∷◌, ◌++◌, Option, Some, refl, sym, ap, ◌∙◌, subst}
 use Rattle.local_store.specs.declared.map.Cell.{Cell}
-use Rattle.patmos_instr.specs.Bundles.{Slots}
+use Rattle.patmos_instr.specs.Bundles.{PlainBundle}
 use Rattle.patmos_sem.specs.Bundles.{after_bundle, effect_of}
 use Rattle.patmos_sem.specs.declared.effects.Effect.{Effect}
 use Rattle.patmos_sem.specs.declared.effects.Effect.TheVariants as effect
@@ -37,7 +37,7 @@ use Rattle.code_words.proofs.Saying.{OfLoad, OfLoads, of_first}
 -- ---- a bundle that is done
 
 -- the run in which a bundle takes effect: its registers are those of the core after the bundle's own reads
-abbrev pub entered : Run → Slots → Core → Run
+abbrev pub entered : Run → PlainBundle → Core → Run
 entered r b c = record r { regs = after_bundle c.plain.stack.st c.plain.stack.ss b c.plain.regs }
 
 -- whatever the end is
@@ -45,7 +45,7 @@ abbrev pub Ever : Moment → Type 0
 Ever m = Unit {0}
 
 module _ (n core : ℕ) (x : Core) (values : List ℕ) where
-  pub record Doing (w : Walk) (b : Slots) (words : ℕ) (m : Moment) : Type 0 where
+  pub record Doing (w : Walk) (b : PlainBundle) (words : ℕ) (m : Moment) : Type 0 where
     pub asks : effect_of b (flowed w).run.regs ≡ effect_of b (core_in m).plain.regs
     pub sound : IsSound (core_in m).plain.site (effect_of b (core_in m).plain.regs) (pointers_of (flowed w).run)
         (flowed w).run.memory
@@ -57,12 +57,12 @@ module _ (n core : ℕ) (x : Core) (values : List ℕ) where
         (flowed w).run b (core_in m))
     pub moved : (core_in (all_moved n core (bundled n core m))).plain.transfer.words ≡ 0
 
-  found_there : (w : Walk) (b : Slots) (m : Moment) → Stands n core x values w m
+  found_there : (w : Walk) (b : PlainBundle) (m : Moment) → Stands n core x values w m
       → (f : Fetches x.plain.site.image b (flowed w)) → fetched_in (core_in m).plain ≡ Found f.bundle f.words
   found_there w b m st f =
       (λ i. fetched_at (st.site_is i).image (sym st.goes.is_as.base i) (sym st.goes.is_as.offset i)) ∙ f.found
 
-  pub doing : (w : Walk) (b : Slots) (m : Moment) → Stands n core x values w m
+  pub doing : (w : Walk) (b : PlainBundle) (m : Moment) → Stands n core x values w m
       → (f : Fetches x.plain.site.image b (flowed w))
       → IsSound x.plain.site (effect_of f.bundle (flowed w).run.regs) (pointers_of (flowed w).run) (flowed w).run.memory
       → Doing w f.bundle f.words m
@@ -110,7 +110,7 @@ module _ (n core : ℕ) (x : Core) (values : List ℕ) where
       pub flows : (f g : FlowKind) → Passes (effect.Flow f) ≡ Passes (effect.Flow g)
       pub begins : (r : Run) (m : Moment) → Beside r m → Beside (begun r) m
       pub before : (count : ℕ) (m : Moment) → Ends (onwards n core count m) → Ends m
-      pub behind : (w : Walk) (b : Slots) (m : Moment) → Stands n core x values w m
+      pub behind : (w : Walk) (b : PlainBundle) (m : Moment) → Stands n core x values w m
           → (f : Fetches x.plain.site.image b (flowed w))
           → IsSound x.plain.site (effect_of f.bundle (flowed w).run.regs) (pointers_of (flowed w).run)
           (flowed w).run.memory → Passes (effect_of f.bundle (flowed w).run.regs)

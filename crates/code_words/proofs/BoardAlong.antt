@@ -5,7 +5,7 @@ use Rattle.shared_order.specs.declared.operation.Operation.{Operation}
 use Rattle.shared_order.specs.Program.{Prog, and_then, fed}
 use Rattle.shared_order.specs.Words.{after, Sees}
 use Rattle.shared_order.proofs.Words.{sees_first}
-use Rattle.patmos_instr.specs.Bundles.{Slots}
+use Rattle.patmos_instr.specs.Bundles.{PlainBundle}
 use Rattle.patmos_sem.specs.Bundles.{effect_of}
 use Rattle.patmos_sem.specs.declared.effects.Effect.{Effect}
 use Rattle.patmos_model.specs.Bundle.{advanced, bundle}
@@ -92,7 +92,7 @@ module _ (n core : ℕ) (x : Core) (values : List ℕ) (Cached : ℕ → Type 0)
   true_still count m so =
       let p = onwards_grows n core count m in sees_first world m.told.own p.0 (subst (λ l. Sees world l) p.1 so)
 
-  board_after : (w : Walk) (b : Slots) (m : Moment) → Stands n core x values w m
+  board_after : (w : Walk) (b : PlainBundle) (m : Moment) → Stands n core x values w m
       → (f : Fetches x.plain.site.image b (flowed w))
       → IsSound x.plain.site (effect_of f.bundle (flowed w).run.regs) (pointers_of (flowed w).run) (flowed w).run.memory
       → KeepsApart Cached (effect_of f.bundle (flowed w).run.regs)

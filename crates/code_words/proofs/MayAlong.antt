@@ -2,7 +2,7 @@
 use Rattle.std.proofs.Common.{◌≡◌, ℕ, List, [], ◌∷◌, Option, Some, inl, refl, sym, ap, ◌∙◌, subst}
 use Rattle.local_store.specs.declared.map.Cell.{Cell}
 use Rattle.shared_order.specs.declared.operation.Operation.{Operation}
-use Rattle.patmos_instr.specs.Bundles.{Slots}
+use Rattle.patmos_instr.specs.Bundles.{PlainBundle}
 use Rattle.patmos_instr.specs.declared.memories.Mem.{Mem}
 use Rattle.patmos_instr.specs.declared.memories.Mem.TheVariants as mem
 use Rattle.patmos_sem.specs.Bundles.{effect_of}
@@ -80,7 +80,7 @@ module _ (Loads Stores To : ℕ → Type 0) (n core : ℕ) (x : Core) (values : 
   abbrev pub PassesWell : Effect → Type 0
   PassesWell e = KeepsApart Cached e × MayReach Loads Stores To board e
 
-  well_after : (w : Walk) (b : Slots) (m : Moment) → Stands n core x values w m
+  well_after : (w : Walk) (b : PlainBundle) (m : Moment) → Stands n core x values w m
       → (f : Fetches x.plain.site.image b (flowed w))
       → IsSound x.plain.site (effect_of f.bundle (flowed w).run.regs) (pointers_of (flowed w).run) (flowed w).run.memory
       → PassesWell (effect_of f.bundle (flowed w).run.regs)

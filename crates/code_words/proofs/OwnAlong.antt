@@ -1,6 +1,6 @@
 -- Along a walk a core's own words are the run's, and what its loads gave of them is what the run has.
 use Rattle.std.proofs.Common.{ℕ, List, inl, refl, sym, subst}
-use Rattle.patmos_instr.specs.Bundles.{Slots}
+use Rattle.patmos_instr.specs.Bundles.{PlainBundle}
 use Rattle.patmos_sem.specs.Bundles.{effect_of}
 use Rattle.patmos_sem.specs.declared.effects.Effect.{Effect}
 use Rattle.patmos_model.specs.declared.flow.Goal.{Goal}
@@ -68,7 +68,7 @@ module _ (n core : ℕ) (x : Core) (values : List ℕ) (Cached : ℕ → Type 0)
   abbrev pub OwnBeside : Run → Moment → Type 0
   OwnBeside r m = HoldsOwn Cached r.memory (core_in m)
 
-  own_after : (w : Walk) (b : Slots) (m : Moment) → Stands n core x values w m
+  own_after : (w : Walk) (b : PlainBundle) (m : Moment) → Stands n core x values w m
       → (f : Fetches x.plain.site.image b (flowed w))
       → IsSound x.plain.site (effect_of f.bundle (flowed w).run.regs) (pointers_of (flowed w).run) (flowed w).run.memory
       → KeepsApart Cached (effect_of f.bundle (flowed w).run.regs)

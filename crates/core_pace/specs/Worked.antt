@@ -1,7 +1,7 @@
 -- For worked rows. The only core of a platform by its bundles, for worked values.
 use Rattle.std.specs.Prelude.{ℕ, ◌-◌, List, [], ◌∷◌, map, length, replicate}
 use Rattle.method_cache.specs.declared.cache.Method.{Method}
-use Rattle.patmos_instr.specs.Bundles.{Slots}
+use Rattle.patmos_instr.specs.Bundles.{PlainBundle}
 use Rattle.patmos_instr.specs.declared.memories.Mem.TheVariants.{M}
 use Rattle.shared_order.specs.declared.operation.Operation.{Operation}
 use Rattle.patmos_model.specs.Apart.{followed}
@@ -18,19 +18,19 @@ use Rattle.core_pace.specs.Pace.{Pace, Event, clock}
 use Rattle.core_pace.specs.Run.{starting, after_bundles, past}
 
 -- a task of these functions that starts at cycle 0, after so many bundles
-abbrev pub bundled_so : List (List Slots) → ℕ → Moment
+abbrev pub bundled_so : List (List PlainBundle) → ℕ → Moment
 bundled_so functions count = after_bundles 1 0 (core_of 1 0 0 functions) [] count
 
 -- the cycles in which its first bundles are done
-abbrev pub cycles_of : List (List Slots) → ℕ → List ℕ
+abbrev pub cycles_of : List (List PlainBundle) → ℕ → List ℕ
 cycles_of functions count = map (λ d. d.cycle) (bundled_so functions count).bundles
 
 -- the offsets of these bundles
-abbrev pub offsets_of : List (List Slots) → ℕ → List ℕ
+abbrev pub offsets_of : List (List PlainBundle) → ℕ → List ℕ
 offsets_of functions count = map (λ d. d.offset) (bundled_so functions count).bundles
 
 -- its events
-abbrev pub events_of : List (List Slots) → ℕ → List Event
+abbrev pub events_of : List (List PlainBundle) → ℕ → List Event
 events_of functions count = past 1 0 (core_of 1 0 0 functions) [] count
 
 -- what the clock makes of events for the only core, from cycle 0 on
@@ -42,11 +42,11 @@ abbrev pub method : ℕ → ℕ → Method
 method function words = record { function = function; words = words }
 
 -- a task of these functions, after so many cycles of its run apart
-abbrev pub run_of : List (List Slots) → ℕ → Core
+abbrev pub run_of : List (List PlainBundle) → ℕ → Core
 run_of functions cycles = (apart turn 1 0 (core_of 1 0 0 functions) [] cycles).core
 
 -- the run of the task by itself, told these values
-abbrev pub told_of : List (List Slots) → List ℕ → ℕ → Alone Core
+abbrev pub told_of : List (List PlainBundle) → List ℕ → ℕ → Alone Core
 told_of functions values cycles = task_apart 1 0 (core_of 1 0 0 functions) values cycles
 
 -- a stack that the cache holds whole: so many words of 5
@@ -60,9 +60,9 @@ brought_back count s =
     (freed count (reserved count s))
 
 -- a task that stores 5 into the first word that all cores share
-abbrev pub storing : List (List Slots)
+abbrev pub storing : List (List PlainBundle)
 storing = (addl 2 0 0x1000000 ∷ addi 3 0 5 ∷ sw M 2 0 3 ∷ ret (nops 3)) ∷ []
 
 -- the operations of a task of these functions in its run apart
-abbrev pub operations_of : List (List Slots) → ℕ → List Operation
+abbrev pub operations_of : List (List PlainBundle) → ℕ → List Operation
 operations_of functions cycles = (followed 1 0 (core_of 1 0 0 functions) [] cycles).own

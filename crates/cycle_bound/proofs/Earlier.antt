@@ -2,7 +2,7 @@
 use Rattle.std.proofs.Common.{◌≡◌, ℕ, zero, suc, ◌<◌, ◌≤◌, true, true≢false, List, [], ◌∷◌, length, get_or, slice_index_or, sym, subst, arith}
 use Rattle.std.proofs.lemmas.Bool.{and_parts, ltb-true, leb-true}
 use Rattle.std.specs.Prelude.{nat_lt, nat_le, ◌&&◌}
-use Rattle.patmos_instr.specs.Bundles.{Slots}
+use Rattle.patmos_instr.specs.Bundles.{PlainBundle}
 use Rattle.sp_shape.specs.Formed.{are_calm, is_iteration, is_way, is_call, part_formed, parts_formed, function_formed, functions_formed, is_formed}
 use Rattle.sp_shape.specs.Parts.{PlainPart, straight, repeats, calls_to, leaves, PlainParts, no_part, part, PlainShape}
 use Rattle.sp_shape.specs.Shown.{plain_part, parts_of, functions_of}
@@ -57,12 +57,14 @@ known_below functions n f within is h =
 
 -- ---- of parts
 
-pub body_below : (n : ℕ) (p : Part) (count : ℕ) (body : List Part) (tail : List Slots) → p ≡ Repeat count body tail
+pub body_below : (n : ℕ) (p : Part) (count : ℕ) (body : List Part) (tail : List PlainBundle) → p
+    ≡ Repeat count body tail
     → PartCallsBelow n (plain_part p)
     → CallsBelow n (parts_of body)
 body_below n p count body tail is h = subst (PartCallsBelow n) (repeat_said p count body tail is) h
 
-pub called_below : (n : ℕ) (p : Part) (k : ℕ) (tail : List Slots) → p ≡ CallTo k tail → PartCallsBelow n (plain_part p)
+pub called_below : (n : ℕ) (p : Part) (k : ℕ) (tail : List PlainBundle) → p ≡ CallTo k tail
+    → PartCallsBelow n (plain_part p)
     → k < n
 called_below n p k tail is h = subst (PartCallsBelow n) (call_said p k tail is) h
 

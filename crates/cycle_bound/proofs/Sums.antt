@@ -2,7 +2,7 @@
 use Rattle.std.proofs.Common.{◌≡◌, ℕ, zero, suc, ◌+◌, ◌^◌, ◌<◌, ◌≤◌, List, [], ◌∷◌, length, drop, get_or, refl, ap, sym, ◌∙◌, arith}
 use Rattle.std.proofs.lemmas.List.{at_drop_all}
 use Rattle.tc_word.proofs.Items.{drop_item}
-use Rattle.patmos_instr.specs.Bundles.{Slots}
+use Rattle.patmos_instr.specs.Bundles.{PlainBundle}
 use Rattle.sp_shape.specs.Parts.{PlainParts}
 use Rattle.sp_shape.specs.Shown.{plain_part, parts_of}
 use Rattle.sp_shape.specs.declared.parts.Part.{Part}
@@ -38,22 +38,23 @@ sum_at_end sum none xs i s all past small h =
 
 -- ---- of bundles
 
-pub words_next : (bs : List Slots) (i : ℕ) (b : Slots) (s a all : ℕ) → i < length bs → b ≡ get_or bs i b → s
+pub words_next : (bs : List PlainBundle) (i : ℕ) (b : PlainBundle) (s a all : ℕ) → i < length bs → b ≡ get_or bs i b → s
     ≡ held (a + bundle_words b)
     → held (a + bundles_words (drop i bs)) ≡ all → held (s + bundles_words (drop (i + 1) bs)) ≡ all
 words_next bs i b s a all within is e h = sum_next bundles_words bs i b s a (bundle_words b) all within is refl e h
 
-pub words_at_end : (bs : List Slots) (i s all : ℕ) → length bs ≤ i → s ≤ 2 ^ 62 + 1
+pub words_at_end : (bs : List PlainBundle) (i s all : ℕ) → length bs ≤ i → s ≤ 2 ^ 62 + 1
     → held (s + bundles_words (drop i bs)) ≡ held all → s ≡ held all
 words_at_end bs i s all past small h = sum_at_end bundles_words refl bs i s all past small h
 
-pub cycles_next : (each : ℕ) (bs : List Slots) (i : ℕ) (b : Slots) (s a all : ℕ) → i < length bs → b ≡ get_or bs i b → s
+pub cycles_next : (each : ℕ) (bs : List PlainBundle) (i : ℕ) (b : PlainBundle) (s a all : ℕ) → i < length bs → b
+    ≡ get_or bs i b → s
     ≡ held (a + bundle_bound each b)
     → held (a + bundles_bound each (drop i bs)) ≡ all → held (s + bundles_bound each (drop (i + 1) bs)) ≡ all
 cycles_next each bs i b s a all within is e h =
     sum_next (bundles_bound each) bs i b s a (bundle_bound each b) all within is refl e h
 
-pub cycles_at_end : (each : ℕ) (bs : List Slots) (i s all : ℕ) → length bs ≤ i → s ≤ 2 ^ 62 + 1
+pub cycles_at_end : (each : ℕ) (bs : List PlainBundle) (i s all : ℕ) → length bs ≤ i → s ≤ 2 ^ 62 + 1
     → held (s + bundles_bound each (drop i bs)) ≡ held all → s ≡ held all
 cycles_at_end each bs i s all past small h = sum_at_end (bundles_bound each) refl bs i s all past small h
 

@@ -3,7 +3,7 @@
 -- core and takes one (after the timing of Schoeberl et al., T-CREST, 2015; the numbers are our own
 -- profile TP1's). it is stated over whole numbers without limit.
 use Rattle.std.specs.Prelude.{ℕ, zero, suc, ◌+◌, ◌*◌, ◌/◌, ◌==◌, min, if◌then◌else◌, List, [], ◌∷◌, length, slice_index_or}
-use Rattle.patmos_instr.specs.Bundles.{Slots}
+use Rattle.patmos_instr.specs.Bundles.{PlainBundle}
 use Rattle.patmos_instr.specs.declared.functions.StackFunc.{StackFunc}
 use Rattle.patmos_instr.specs.declared.functions.StackFunc.TheVariants.{Sres, Sens, Sfree}
 use Rattle.patmos_instr.specs.declared.instructions.Op.{Op}
@@ -47,10 +47,10 @@ fill_moves fs k = transactions (1 + parts_words (slice_index_or fs k no_part))
 -- ---- cycles, where a transaction takes so many at most
 
 -- only the first slot can use a memory
-abbrev pub bundle_bound : ℕ → Slots → ℕ
+abbrev pub bundle_bound : ℕ → PlainBundle → ℕ
 bundle_bound each b = 1 + each * op_moves b.first.op
 
-abbrev pub bundles_bound : ℕ → List Slots → ℕ
+abbrev pub bundles_bound : ℕ → List PlainBundle → ℕ
 bundles_bound each [] = 0
 bundles_bound each (b ∷ bs) = bundle_bound each b + bundles_bound each bs
 

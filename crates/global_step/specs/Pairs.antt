@@ -1,7 +1,7 @@
 -- For worked rows. Small platforms whose cores meet, for worked values.
 use Rattle.std.specs.Prelude.{ℕ, zero, suc, List, [], ◌∷◌, ◌++◌}
 use Rattle.shared_order.specs.Machine.{State, cycled}
-use Rattle.patmos_instr.specs.Bundles.{Slots}
+use Rattle.patmos_instr.specs.Bundles.{PlainBundle}
 use Rattle.patmos_instr.specs.declared.memories.Mem.{Mem}
 use Rattle.patmos_instr.specs.declared.memories.Mem.TheVariants.{L, M}
 use Rattle.patmos_instr.specs.declared.memories.StoreWidth.TheVariants as store
@@ -31,10 +31,10 @@ by_table (suc (suc zero)) = tabled (0 ∷ 1 ∷ 0 ∷ 2 ∷ []) 3 2 0 seven
 by_table core = resting 3 core
 
 -- core 0 stores 5 in a word of shared memory, from cycle 12 on; core 1 loads the word twice
-abbrev pub storing : List (List Slots)
+abbrev pub storing : List (List PlainBundle)
 storing = (addl 2 0 0x1000000 ∷ addi 3 0 5 ∷ sw M 2 0 3 ∷ ret (nops 3)) ∷ []
 
-abbrev pub loading : Mem → List (List Slots)
+abbrev pub loading : Mem → List (List PlainBundle)
 loading space = (addl 2 0 0x1000000 ∷ lw space 3 2 0 ∷ nops 1 ++ lw space 4 2 0
     ∷ ret (sli 3 3 4 ∷ add 1 3 4 ∷ nops 1)) ∷ []
 
@@ -43,7 +43,7 @@ sharing space zero = core_of 2 0 12 storing
 sharing space (suc core) = core_of 2 1 0 (loading space)
 
 -- each of two cores stores a byte in one word, and core 1 loads it then
-abbrev pub byte_storing : ℕ → ℕ → List Slots
+abbrev pub byte_storing : ℕ → ℕ → List PlainBundle
 byte_storing place value = addl 2 0 0x1000000 ∷ addi 3 0 value ∷ alone (Store M store.Byte 2 3 place) ∷ []
 
 abbrev pub bytes_of_two : ℕ → Core
@@ -65,6 +65,6 @@ sending (suc core) = core_of 2 1 0 ((addl 2 0 0x10000 ∷ lw M 3 0 0 ∷ lw M 3 
     ∷ ret (nops 3)) ∷ [])
 
 -- a count of 0, and a byte stored in a register of the interface
-abbrev pub misused : Slots → ℕ → Core
+abbrev pub misused : PlainBundle → ℕ → Core
 misused store zero = core_of 2 0 0 ((addl 2 0 0x20010 ∷ store ∷ []) ∷ [])
 misused store (suc core) = resting 2 1

@@ -1,7 +1,7 @@
 -- Bundles that a core does at once, told by what was decoded.
 use Rattle.std.proofs.Common.{◌≡◌, ℕ, ℤ, ◌+◌, ◌<◌, ◌≤◌, ◌==◌, ◌&&◌, nat_lt, nat_le, Bool, true, false, Option, None, Some, [], ◌∷◌, refl, sym, ap, ◌∙◌, arith, if◌then◌else◌}
 use Rattle.std.proofs.lemmas.Bool.Decides.{nat_tests}
-use Rattle.patmos_instr.specs.Bundles.{Slots}
+use Rattle.patmos_instr.specs.Bundles.{PlainBundle}
 use Rattle.patmos_instr.specs.declared.guards.Guard.{Guard}
 use Rattle.patmos_instr.specs.declared.instructions.Instr.{Instr}
 use Rattle.patmos_instr.specs.declared.instructions.Op.{Op}
@@ -31,7 +31,7 @@ use Rattle.patmos_alone.proofs.ByItself.{silent_asks}
 use Rattle.patmos_step.proofs.Fetching.{a_bundle}
 
 -- the class of a bundle, and of none
-class_of_some : (bundle : Slots) → class_of (Some bundle) ≡ class_in bundle
+class_of_some : (bundle : PlainBundle) → class_of (Some bundle) ≡ class_in bundle
 unfolding class_of
 class_of_some bundle = refl
 
@@ -45,7 +45,7 @@ class_is : (base offset : ℕ) (b : Body) (found : Decoded) → StandsAt b.image
 class_is base offset b found stands = ap (λ d. class_of d.bundle) stands.is ∙ sym (ap (λ d. d.class) stands.is)
 
 -- what a class says of a bundle
-silent_class : (bundle : Slots) → class_in bundle ≡ classes.Silent → is_silent bundle.first.op ≡ true
+silent_class : (bundle : PlainBundle) → class_in bundle ≡ classes.Silent → is_silent bundle.first.op ≡ true
 silent_class bundle h = by (is_silent bundle.first.op) bundle.second (branch_of bundle.first.op) h
   where
     by : (silent : Bool) (second : Option Instr) (branch : Option ℤ) → elim silent [
@@ -68,7 +68,7 @@ branch_is : (o : Op) (jump : ℤ) → branch_of o ≡ Some jump → o ≡ op.Bra
 branch_is (op.AluImm func rd ra imm) jump h = cc
 branch_is _ jump h = cc
 
-branch_class : (bundle : Slots) (guard : Guard) (jump : ℤ) → class_in bundle ≡ classes.Branch guard jump → bundle
+branch_class : (bundle : PlainBundle) (guard : Guard) (jump : ℤ) → class_in bundle ≡ classes.Branch guard jump → bundle
     ≡ branch_alone guard jump
 branch_class bundle guard jump h = by (is_silent bundle.first.op) bundle.second (branch_of bundle.first.op) refl refl h
   where
@@ -102,7 +102,7 @@ pub silent_next : (cycle offset : ℕ) (b : Body) (found : Decoded) → CanBegin
 silent_next cycle offset b found begins can stands inside within is =
     by found.bundle refl (class_is b.base offset b found stands ∙ is)
   where
-    by : (bundle : Option Slots) → found.bundle ≡ bundle → class_of bundle ≡ classes.Silent
+    by : (bundle : Option PlainBundle) → found.bundle ≡ bundle → class_of bundle ≡ classes.Silent
         → IsPrivateIn cycle b (record { offset = offset; words = found.words; effect = effect.Nothing })
     by None same h = absurd (let no : classes.Other ≡ classes.Silent = sym class_of_none ∙ h in cc)
     by (Some bundle) same h = record {
@@ -133,7 +133,7 @@ pub branch_next : (cycle offset : ℕ) (b : Body) (found : Decoded) (guard : Gua
 branch_next cycle offset b found guard jump begins can stands inside within is none =
     by found.bundle refl (class_is b.base offset b found stands ∙ is)
   where
-    by : (bundle : Option Slots) → found.bundle ≡ bundle → class_of bundle ≡ classes.Branch guard jump
+    by : (bundle : Option PlainBundle) → found.bundle ≡ bundle → class_of bundle ≡ classes.Branch guard jump
         → IsBranchIn cycle b offset found.words guard jump
     by None same h = absurd (let no : classes.Other ≡ classes.Branch guard jump = sym class_of_none ∙ h in cc)
     by (Some bundle) same h =
@@ -160,7 +160,8 @@ branch_next cycle offset b found guard jump begins can stands inside within is n
         }
 
 -- the core after a branch alone
-pub branched_is : (cycle words offset : ℕ) (guard : Guard) (jump : ℤ) (x : Plain) (bundle : Slots) → no_slot_left x.flow
+pub branched_is : (cycle words offset : ℕ) (guard : Guard) (jump : ℤ) (x : Plain) (bundle : PlainBundle)
+    → no_slot_left x.flow
     ≡ true → bundle ≡ branch_alone guard jump
     → record x {
       regs = record (after_writes (came x.regs.pending ∷ []) x.regs) { pending = pending.Nothing };

@@ -6,7 +6,7 @@ use Rattle.shared_order.specs.Program.{Prog, and_then}
 use Rattle.local_store.specs.declared.map.Space.TheVariants.{Local}
 use Rattle.local_store.specs.declared.map.Cell.{Cell}
 use Rattle.local_store.specs.declared.map.Cell.TheVariants as cell
-use Rattle.patmos_instr.specs.Bundles.{Slots}
+use Rattle.patmos_instr.specs.Bundles.{PlainBundle}
 use Rattle.patmos_instr.specs.declared.instructions.Op.{Op}
 use Rattle.patmos_instr.specs.declared.instructions.Op.TheVariants as op
 use Rattle.patmos_instr.specs.declared.memories.Mem.{Mem}
@@ -44,7 +44,7 @@ use Rattle.patmos_step.proofs.Moves.{runs}
 use Rattle.patmos_step.proofs.Short.{free_unmoved}
 
 -- an operation that is silent asks for nothing
-pub silent_asks : (b : Slots) (regs : Registers) → is_silent b.first.op ≡ true → effect.Nothing ≡ effect_of b regs
+pub silent_asks : (b : PlainBundle) (regs : Registers) → is_silent b.first.op ≡ true → effect.Nothing ≡ effect_of b regs
 silent_asks b regs silent = by (holds regs b.first.guard) b.first.op silent
   where
     by : (guard : Bool) (op : Op) → is_silent op ≡ true → effect.Nothing
@@ -206,7 +206,8 @@ lands cycle offset c free can =
     by (Some f) same can = by_test f (f.slots == 0) same can
 
 -- then the bundle there is done
-bundle_alone : (cycle words : ℕ) (b : Slots) (c : Core) → fetched_at c.plain.site.image c.plain.base c.plain.offset
+bundle_alone : (cycle words : ℕ) (b : PlainBundle) (c : Core)
+    → fetched_at c.plain.site.image c.plain.base c.plain.offset
     ≡ Found b words
     → fault_of c.plain (effect_of b c.plain.regs) ≡ None → AsksOwn (effect_of b c.plain.regs)
     → bundle cycle c ≡ now (with_plain (λ x. finished (effect_of b c.plain.regs) cycle (advanced words b x)) c)
@@ -270,7 +271,7 @@ own_as cycle c landed_core last running flows still free does none =
     ∙ ap (λ p. and_then p (slot_step cycle)) does
     ∙ ap (λ b. elim b as (λ _. Prog Acted) [ true ↦ transaction cycle last | false ↦ now last ]) none
 
-own_alone : (cycle words offset : ℕ) (b : Slots) (asked : Effect) (c : Core) → CanBegin cycle c.plain
+own_alone : (cycle words offset : ℕ) (b : PlainBundle) (asked : Effect) (c : Core) → CanBegin cycle c.plain
     → CanLand offset c.plain
     → fetched_at c.plain.site.image c.plain.base offset ≡ Found b words → asked ≡ effect_of b c.plain.regs
     → AsksOwn asked → IsGranted asked c.plain → CanFlow c.plain asked
@@ -379,7 +380,7 @@ store_alone cycle b y next space width address value h begins n is own granted w
     next_alone cycle b y next (effect.Store space width address value) h begins n is own granted tt waits same interface
 
 -- what a bundle asks for is still granted once the bundle's registers are written
-pub granted_after : (asked : Effect) (words offset : ℕ) (b : Slots) (x y : Plain) → IsGranted asked x → y
+pub granted_after : (asked : Effect) (words offset : ℕ) (b : PlainBundle) (x y : Plain) → IsGranted asked x → y
     ≡ passed words asked (landed offset (with_registers b x)) → IsGranted asked y
 granted_after asked words offset b x y granted same = subst (IsGranted asked) (sym same) (by asked granted)
   where

@@ -1,7 +1,7 @@
 -- A bundle of its own leaves words to be moved in the first slot from its cycle on, or none.
 use Rattle.std.proofs.Common.{◌≡◌, ℕ, ◌+◌, ◌<◌, ◌==◌, ◌&&◌, true, false, Option, None, Some, sym, ap, ◌∙◌, subst, arith}
 use Rattle.std.proofs.lemmas.Bool.Decides.{nat_tests}
-use Rattle.patmos_instr.specs.Bundles.{Slots}
+use Rattle.patmos_instr.specs.Bundles.{PlainBundle}
 use Rattle.patmos_instr.specs.declared.memories.Mem.{Mem}
 use Rattle.patmos_instr.specs.declared.memories.Mem.TheVariants as mem
 use Rattle.patmos_instr.specs.declared.memories.Width.{Width}
@@ -33,7 +33,7 @@ abbrev left_to_move : Transfer → Plain → Plain
 left_to_move moved x = record x { transfer = moved }
 
 -- a word of main memory is left to be moved in the first slot that starts later
-left_waits : (cycle start words offset : ℕ) (asked : Effect) (b : Slots) (before x y : Plain) (moved : Transfer)
+left_waits : (cycle start words offset : ℕ) (asked : Effect) (b : PlainBundle) (before x y : Plain) (moved : Transfer)
     → CanBegin cycle before
     → x ≡ passed words asked (landed offset (with_registers b before)) → y ≡ left_to_move moved x → 0 < moved.words
     → cycle < start
@@ -44,7 +44,7 @@ left_waits cycle start words offset asked b before x y moved begins there same s
     (slot_first cycle start (left_to_move moved (passed words asked (landed offset (with_registers b before)))) some
     (free_now before.transfer.words before.free cycle begins.free) later next)
 
-pub load_waits : (width : Width) (rd address cycle start words offset : ℕ) (asked : Effect) (b : Slots)
+pub load_waits : (width : Width) (rd address cycle start words offset : ℕ) (asked : Effect) (b : PlainBundle)
     (before x y : Plain) → CanBegin cycle before
     → x ≡ passed words asked (landed offset (with_registers b before)) → y
     ≡ finished_load mem.M width rd address cycle x → cycle < start
@@ -54,7 +54,7 @@ load_waits width rd address cycle start words offset asked b before x y begins t
     left_waits cycle start words offset asked b before x y (reads 1 (then_on.Load rd width address)) begins there same
     (omega arith) later next
 
-pub store_waits : (width : StoreWidth) (address value cycle start words offset : ℕ) (asked : Effect) (b : Slots)
+pub store_waits : (width : StoreWidth) (address value cycle start words offset : ℕ) (asked : Effect) (b : PlainBundle)
     (before x y : Plain) → CanBegin cycle before
     → x ≡ passed words asked (landed offset (with_registers b before)) → y
     ≡ finished_store mem.M width address value cycle x → cycle < start
@@ -77,20 +77,21 @@ local_waits mem.C cycle site local = absurd local
 local_waits mem.M cycle site local = absurd local
 
 -- where none are left to be moved, the next bundle comes in the next cycle
-by_flow : (cycle words offset : ℕ) (asked : Effect) (b : Slots) (before x y : Plain) → CanBegin cycle before → x
+by_flow : (cycle words offset : ℕ) (asked : Effect) (b : PlainBundle) (before x y : Plain) → CanBegin cycle before → x
     ≡ passed words asked (landed offset (with_registers b before))
     → y.status ≡ x.status → y.transfer ≡ x.transfer → y.free ≡ cycle + 1 → CanBegin (cycle + 1) y
 by_flow cycle words offset asked b before x y begins there status transfer free =
     begins_next cycle before y begins (status ∙ ap (λ p. p.status) there) (transfer ∙ ap (λ p. p.transfer) there) free
 
-pub flow_begins : (cycle words offset : ℕ) (asked : Effect) (b : Slots) (before x y : Plain) → CanBegin cycle before → x
+pub flow_begins : (cycle words offset : ℕ) (asked : Effect) (b : PlainBundle) (before x y : Plain)
+    → CanBegin cycle before → x
     ≡ passed words asked (landed offset (with_registers b before))
     → y ≡ ends cycle x → CanBegin (cycle + 1) y
 flow_begins cycle words offset asked b before x y begins there same =
     by_flow cycle words offset asked b before x y begins there (ap (λ p. p.status) same) (ap (λ p. p.transfer) same)
     (ap (λ p. p.free) same)
 
-pub load_begins : (space : Mem) (width : Width) (rd address cycle words offset : ℕ) (asked : Effect) (b : Slots)
+pub load_begins : (space : Mem) (width : Width) (rd address cycle words offset : ℕ) (asked : Effect) (b : PlainBundle)
     (before x y : Plain) → CanBegin cycle before → IsLocal space
     → x ≡ passed words asked (landed offset (with_registers b before)) → y
     ≡ finished_load space width rd address cycle x → CanBegin (cycle + 1) y
@@ -120,7 +121,7 @@ scratch_begins cycle (Some (cell.Shared word)) width address value x y same =
     (ap (λ p. p.status) same, ap (λ p. p.transfer) same, ap (λ p. p.free) same)
 
 pub store_begins : (space : Mem) (width : StoreWidth) (address value cycle words offset : ℕ) (asked : Effect)
-    (b : Slots) (before x y : Plain) → CanBegin cycle before → IsLocal space
+    (b : PlainBundle) (before x y : Plain) → CanBegin cycle before → IsLocal space
     → x ≡ passed words asked (landed offset (with_registers b before)) → y
     ≡ finished_store space width address value cycle x → CanBegin (cycle + 1) y
 store_begins mem.S width address value cycle words offset asked b before x y begins local there same =

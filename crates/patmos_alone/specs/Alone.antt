@@ -7,7 +7,7 @@ use Rattle.shared_order.specs.Words.{put}
 use Rattle.local_store.specs.declared.map.Space.TheVariants.{Local}
 use Rattle.local_store.specs.declared.map.Cell.{Cell}
 use Rattle.local_store.specs.declared.map.Cell.TheVariants as cell
-use Rattle.patmos_instr.specs.Bundles.{Slots}
+use Rattle.patmos_instr.specs.Bundles.{PlainBundle}
 use Rattle.patmos_instr.specs.declared.memories.Mem.{Mem}
 use Rattle.patmos_instr.specs.declared.memories.Mem.TheVariants as mem
 use Rattle.patmos_instr.specs.declared.memories.Width.{Width}
@@ -62,7 +62,7 @@ abbrev pub landed : ℕ → Plain → Plain
 landed offset x = record x { offset = offset; flow = left x.flow }
 
 -- the core with the registers as a bundle leaves them
-abbrev pub with_registers : Slots → Plain → Plain
+abbrev pub with_registers : PlainBundle → Plain → Plain
 with_registers b x = record x { regs = after_bundle x.stack.st x.stack.ss b x.regs }
 
 -- an address in the scratchpad, and one of the core's own stack or scratchpad, or of main memory, whose words
@@ -189,7 +189,7 @@ CanWait asked cycle site = elim asked [
 
 -- a bundle stands at an offset of the core's function
 pub record HasBundleAt (b : Body) (offset : ℕ) : Type 0 where
-  pub bundle : Slots
+  pub bundle : PlainBundle
   pub words : ℕ
   pub fetched : fetched_at b.image b.base offset ≡ Found bundle words
   pub inside : offset < b.size
@@ -197,7 +197,7 @@ pub record HasBundleAt (b : Body) (offset : ℕ) : Type 0 where
 -- it is the core's next one, and asks for this
 pub record IsNextBundle (b : Body) (next : NextBundle) : Type 0 where
   pub lands : CanLand next.offset (plain_of b)
-  pub bundle : Slots
+  pub bundle : PlainBundle
   pub fetched : fetched_at b.image b.base next.offset ≡ Found bundle next.words
   pub inside : next.offset < b.size
   pub within : next.offset + next.words ≤ b.size

@@ -1,6 +1,6 @@
 -- To be believed. Bundles that a core does at once: those that ask for nothing, and branches alone.
 use Rattle.std.specs.Prelude.{◌≡◌, ℕ, ℤ, Bool, true, false, Option, None, Some}
-use Rattle.patmos_instr.specs.Bundles.{Slots}
+use Rattle.patmos_instr.specs.Bundles.{PlainBundle}
 use Rattle.patmos_instr.specs.declared.guards.Guard.{Guard}
 use Rattle.patmos_instr.specs.declared.instructions.Op.TheVariants as op
 use Rattle.patmos_sem.specs.declared.effects.FlowKind.TheVariants as flow
@@ -11,7 +11,7 @@ use Rattle.patmos_step.specs.declared.body.Body.{Body}
 use Rattle.patmos_alone.specs.Alone.{no_slot_left, IsPrivateIn}
 
 -- a bundle of a branch alone
-abbrev pub branch_alone : Guard → ℤ → Slots
+abbrev pub branch_alone : Guard → ℤ → PlainBundle
 branch_alone guard by = record { first = record { guard = guard; op = op.Branch by }; second = None }
 
 -- it comes in the cycle, and no flow has delay slots left

@@ -5,7 +5,7 @@ ghost use Rattle.patmos_instr.specs.declared.memories.Mem.TheVariants as mem;
 ghost use Rattle.patmos_sem.specs.declared.effects.Effect.TheVariants as effect;
 ghost use Rattle.patmos_sem.specs.declared.pending.Pending.TheVariants as pending;
 ghost use Rattle.patmos_sem.specs.Bundles.{effect_of};
-ghost use Rattle.patmos_instr.specs.Bundles.{Slots};
+ghost use Rattle.patmos_instr.specs.Bundles.{PlainBundle};
 ghost use Rattle.patmos_model.specs.declared.fetched.Fetched.TheVariants.{Found};
 ghost use Rattle.patmos_model.specs.Bundle.{fetched_at};
 ghost use Rattle.patmos_model.specs.Checks.{load_fault, store_fault};
@@ -280,7 +280,7 @@ fn can_store(body: &Body, space: Mem, width: StoreWidth, address: u32, value: u3
 fn go_through(body: &mut Body, next: &NextBundle)
     requires next { IsNextBundle body.old next.now }
     requires asks { next.now.effect ≢ effect.Nothing }
-    ensures plain { (b : Slots) → fetched_at body.old.image body.old.base next.now.offset ≡ Found b next.now.words
+    ensures plain { (b : PlainBundle) → fetched_at body.old.image body.old.base next.now.offset ≡ Found b next.now.words
         → plain_of body.new ≡ passed next.now.words next.now.effect
         (landed next.now.offset (with_registers b (plain_of body.old))) }
     ensures pending { body.new.regs.pending ≡ pending.Nothing }
@@ -297,9 +297,9 @@ fn go_through(body: &mut Body, next: &NextBundle)
 #[inline(always)]
 fn write_asking(body: &mut Body, offset: u32)
     requires there { HasBundleAt body.old offset }
-    requires asks { (b : Slots) (words : ℕ) → fetched_at body.old.image body.old.base offset ≡ Found b words
+    requires asks { (b : PlainBundle) (words : ℕ) → fetched_at body.old.image body.old.base offset ≡ Found b words
         → effect_of b body.old.regs ≢ effect.Nothing }
-    ensures plain { (b : Slots) (words : ℕ) → fetched_at body.old.image body.old.base offset ≡ Found b words
+    ensures plain { (b : PlainBundle) (words : ℕ) → fetched_at body.old.image body.old.base offset ≡ Found b words
         → plain_of body.new ≡ with_registers b (plain_of body.old) }
     ensures pending { body.new.regs.pending ≡ pending.Nothing }
     ensures rest { IsAtRest body.old → IsAtRest body.new }

@@ -3,7 +3,7 @@ ghost use Rattle.patmos_model.specs.Flows.{counted};
 ghost use Rattle.patmos_step.specs.Plan.{passed};
 ghost use Rattle.patmos_alone.specs.Alone.{left, landed, with_registers, HasBundleAt, IsPrivateIn, IsAlone, CanBegin};
 ghost use Rattle.patmos_alone.specs.AtOnce as specs;
-ghost use Rattle.patmos_instr.specs.Bundles.{Slots};
+ghost use Rattle.patmos_instr.specs.Bundles.{PlainBundle};
 ghost use Rattle.patmos_sem.specs.declared.effects.Effect.TheVariants as effect;
 ghost use Rattle.patmos_model.specs.declared.fetched.Fetched.TheVariants.{Found};
 ghost use Rattle.patmos_model.specs.State.{History};
@@ -62,7 +62,7 @@ pub fn do_branch(body: &mut Body, offset: u32, words: u32, guard: Guard, by: i32
 #[inline(always)]
 fn write_registers(body: &mut Body, offset: u32)
     requires there { HasBundleAt body.old offset }
-    ensures plain { (b : Slots) (words : ℕ) → fetched_at body.old.image body.old.base offset ≡ Found b words
+    ensures plain { (b : PlainBundle) (words : ℕ) → fetched_at body.old.image body.old.base offset ≡ Found b words
         → plain_of body.new ≡ with_registers b (plain_of body.old) }
     ensures rest { IsAtRest body.old → IsAtRest body.new }
     ensures only { OnlyPlain body.old body.new }

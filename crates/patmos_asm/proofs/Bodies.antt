@@ -4,7 +4,7 @@ use Rattle.std.proofs.lemmas.Bool.Decides.{nat_tests}
 use Rattle.std.proofs.lemmas.Int.{ints}
 use Rattle.patmos_instr.specs.Fields.{FitsOff22}
 use Rattle.patmos_instr.specs.Instructions.{FitsOp, is_long}
-use Rattle.patmos_instr.specs.Bundles.{Slots, FitsBundle}
+use Rattle.patmos_instr.specs.Bundles.{PlainBundle, FitsBundle}
 use Rattle.patmos_instr.specs.declared.guards.Guard.{Guard}
 use Rattle.patmos_instr.specs.declared.instructions.Instr.{Instr}
 use Rattle.patmos_instr.specs.declared.instructions.Op.{Op}
@@ -24,7 +24,8 @@ use Rattle.patmos_asm.proofs.ReadBundles.{IsPrintable, IsPrintableDraft, IsPrint
 use Rattle.patmos_asm.proofs.ParsedItems.{FitAll}
 
 -- the words of a bundle stand for it
-shape : (w : ℕ) (o : Option ℕ) (off : ℕ) (b : Slots) (rest : List ℕ) → w < 2 ^ 31 → ((first second : ℕ) → words w o
+shape : (w : ℕ) (o : Option ℕ) (off : ℕ) (b : PlainBundle) (rest : List ℕ) → w < 2 ^ 31
+    → ((first second : ℕ) → words w o
     ≡ (if nat_lt first (2 ^ 31) then first ∷ [] else first ∷ second ∷ []) → bundle_at first second ≡ Some b) →
     bundles_from off (words w o ++ rest) ≡ (off, b) ∷ bundles_from (off + length (words w o)) rest
 shape w None off b [] h back =
@@ -40,7 +41,7 @@ shape w (Some v) off b rest h back =
     let e : bundle_at (2 ^ 31 + w) v ≡ Some b = back (2 ^ 31 + w) v (rw lt refl) in
     rw (e, lt) refl
 
-pub code_first : (off : ℕ) (b : Slots) (rest : List ℕ) → FitsBundle b → bundles_from off (code b ++ rest)
+pub code_first : (off : ℕ) (b : PlainBundle) (rest : List ℕ) → FitsBundle b → bundles_from off (code b ++ rest)
     ≡ (off, b) ∷ bundles_from (off + length (code b)) rest
 unfolding code
 code_first off b rest f = shape (instr_code b.first) (second_word b.first.op b.second) off b rest

@@ -2,7 +2,7 @@
 use Rattle.std.proofs.Common.{arith, ◌≡◌, ◌∙◌, ℕ, ◌+◌, ◌≤◌, ◌==◌, ◌||◌, Bool, true, false, cond, List, [], ◌∷◌, ◌++◌, refl, ap, Option, Some, None}
 use Rattle.std.specs.List.{list_any, cons_option}
 use Rattle.std.proofs.lemmas.Bool.Decides.{nat_tests}
-use Rattle.patmos_instr.specs.Bundles.{Slots}
+use Rattle.patmos_instr.specs.Bundles.{PlainBundle}
 use Rattle.patmos_instr.specs.declared.instructions.Op.{Op}
 use Rattle.patmos_code.specs.Codes.{code}
 use Rattle.patmos_forms.specs.declared.forms.JumpKind.TheVariants.{Branch, Call, BranchFill}
@@ -41,7 +41,8 @@ function_keeps names functions is back f =
 equal_itself : (n : ℕ) → n == n ≡ true
 equal_itself n = grind (arith, nat_tests)
 
-marked_first : (functions labels : Lookup) (branched : ℕ → Bool) (off : ℕ) (d : Draft) (b : Slots) (rest : List Placed)
+marked_first : (functions labels : Lookup) (branched : ℕ → Bool) (off : ℕ) (d : Draft) (b : PlainBundle)
+    (rest : List Placed)
     → b.first.op ≡ placed_op functions labels off d →
     ((n : ℕ) → is_target n (targets_of ((off, b) ∷ rest)) ≡ true → branched n ≡ true) → IsMarked labels branched d
 marked_first functions labels branched off (to Branch name) b rest e all =

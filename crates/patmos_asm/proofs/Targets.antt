@@ -4,20 +4,20 @@ use Rattle.std.specs.List.{list_any}
 use Rattle.std.specs.Option.{option_map, unwrap_or}
 use Rattle.std.proofs.lemmas.Bool.Decides.{nat_tests}
 use Rattle.indexmap.specs.IndexSet.{insert_key}
-use Rattle.patmos_instr.specs.Bundles.{Slots}
+use Rattle.patmos_instr.specs.Bundles.{PlainBundle}
 use denote.Ref.{Bor}
 use Rattle.patmos_code.specs.Decoding.{bundle_at}
 use Rattle.patmos_asm.specs.Printed.{before_rest, bundles_from, targets_of, is_target, lines_of, label_line, head_line, function_text}
 
 -- a bundle of one word, and of two, in front of others
-pub one_word_first : (ws : List ℕ) (o : Option Slots) (at : ℕ) → 2 ≤ length ws → get_or ws 0 0 < 2 ^ 31 → o
+pub one_word_first : (ws : List ℕ) (o : Option PlainBundle) (at : ℕ) → 2 ≤ length ws → get_or ws 0 0 < 2 ^ 31 → o
     ≡ bundle_at (get_or ws 0 0) (get_or ws 1 0) →
     bundles_from at ws ≡ before_rest at o (bundles_from (at + 1) (drop 1 ws))
 one_word_first [] o at long small is = absurd (omega arith)
 one_word_first (w ∷ []) o at long small is = absurd (omega arith)
 one_word_first (w ∷ v ∷ ws) o at long small is = rw is (grind (arith, nat_tests))
 
-pub two_words_first : (ws : List ℕ) (o : Option Slots) (at : ℕ) → 2 ≤ length ws → 2 ^ 31 ≤ get_or ws 0 0 → o
+pub two_words_first : (ws : List ℕ) (o : Option PlainBundle) (at : ℕ) → 2 ≤ length ws → 2 ^ 31 ≤ get_or ws 0 0 → o
     ≡ bundle_at (get_or ws 0 0) (get_or ws 1 0) →
     bundles_from at ws ≡ before_rest at o (bundles_from (at + 2) (drop 2 ws))
 two_words_first [] o at long large is = absurd (omega arith)

@@ -2,7 +2,7 @@
 use Rattle.std.specs.Prelude.{ℕ, pos, ◌+◌, ◌-ℤ◌, ◌==◌, Bool, true, not, ◌||◌, nat_lt, if◌then◌else◌, List, [], ◌∷◌, ◌++◌, length, map, bytes_eq, Option, Some, None, is_some, unwrap_or, Result, Ok, Err}
 use Rattle.std.specs.List.{list_any}
 use Rattle.std.specs.Option.{option_or, option_map}
-use Rattle.patmos_instr.specs.Bundles.{Slots}
+use Rattle.patmos_instr.specs.Bundles.{PlainBundle}
 use Rattle.patmos_instr.specs.declared.instructions.Op.{Op}
 use Rattle.patmos_instr.specs.declared.instructions.Op.TheVariants as op
 use Rattle.patmos_code.specs.declared.images.TheConstants.{MOST_IN_FUNCTION, MOST_IN_IMAGE}
@@ -146,7 +146,7 @@ placed_op functions labels at (to Branch name) = op.Branch (pos (unwrap_or (labe
 placed_op functions labels at (to Call name) = op.Call (unwrap_or (functions name) 0)
 placed_op functions labels at (to BranchFill name) = op.BranchFill (unwrap_or (functions name) 0)
 
-abbrev pub placed : Lookup → Lookup → ℕ → DraftBundle → Slots
+abbrev pub placed : Lookup → Lookup → ℕ → DraftBundle → PlainBundle
 placed functions labels at b =
     record {
       first = record { guard = b.first.guard; op = placed_op functions labels at b.first.draft };

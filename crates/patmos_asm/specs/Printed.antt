@@ -3,7 +3,7 @@
 use Rattle.std.specs.Prelude.{ℕ, ℤ, pos, negsuc, ◌+◌, ◌-◌, ◌+ℤ◌, ◌^◌, ◌==◌, Bool, nat_lt, if◌then◌else◌, List, [], ◌∷◌, ◌++◌, length, take, drop, slice_index, codes, Option, Some, None}
 use Rattle.std.specs.Fmt.{decimal}
 use Rattle.std.specs.List.{list_any, filter_map, zip}
-use Rattle.patmos_instr.specs.Bundles.{Slots}
+use Rattle.patmos_instr.specs.Bundles.{PlainBundle}
 use Rattle.patmos_instr.specs.declared.instructions.Op.{Op}
 use Rattle.patmos_instr.specs.declared.instructions.Op.TheVariants as op
 use Rattle.patmos_code.specs.Decoding.{bundle_at}
@@ -14,9 +14,9 @@ use Rattle.patmos_asm.specs.Assembly.{CodeParts}
 
 -- a bundle and its offset in its function
 abbrev pub Placed : Type 0
-Placed = ℕ × Slots
+Placed = ℕ × PlainBundle
 
-abbrev pub before_rest : ℕ → Option Slots → List Placed → List Placed
+abbrev pub before_rest : ℕ → Option PlainBundle → List Placed → List Placed
 before_rest at None rest = rest
 before_rest at (Some b) rest = (at, b) ∷ rest
 
@@ -60,7 +60,7 @@ named_op functions at (op.Call target) = to Call (functions target)
 named_op functions at (op.BranchFill target) = to BranchFill (functions target)
 named_op functions at o = ready o
 
-abbrev pub named : (ℕ → List ℕ) → ℕ → Slots → DraftBundle
+abbrev pub named : (ℕ → List ℕ) → ℕ → PlainBundle → DraftBundle
 named functions at b =
     record { first = record { guard = b.first.guard; draft = named_op functions at b.first.op }; second = b.second }
 

@@ -1,6 +1,6 @@
 ghost use Rattle.std.specs.Prelude.{◌≡◌, ◌≤◌, ◌<◌, ◌^◌, ◌++◌, ◌||◌, ◌+◌, ◌+ℤ◌, pos, ℕ, ◌==◌, List, [], ◌∷◌, map, length, take, drop, slice_index, if◌then◌else◌, string_bytes, unwrap_or, IfOk, OnOk, Ok, codes};
 ghost use Rattle.std.specs.List.{zip};
-ghost use Rattle.patmos_instr.specs.Bundles.{Slots};
+ghost use Rattle.patmos_instr.specs.Bundles.{PlainBundle};
 ghost use Rattle.patmos_asm.specs.Assembly.{code_of};
 ghost use Rattle.patmos_asm.specs.Printed as specs;
 ghost use Rattle.patmos_asm.specs.Written.{bundle_text, instr_text};

@@ -2,7 +2,7 @@
 use Rattle.std.proofs.Common.{arith, ◌≡◌, ℕ, ◌+◌, ◌-◌, ◌<◌, ◌≤◌, ◌^◌, Bool, true, false, refl, sym, subst, not, ◌&&◌, IsTrue, ◌∙◌, ap, Option, Some, None, if◌then◌else◌, nat_lt, [], ◌∷◌, IfSome}
 use Rattle.std.proofs.lemmas.Bool.Decides.{nat_tests}
 use Rattle.patmos_instr.specs.Instructions.{is_long, is_second_kind, FitsInstr}
-use Rattle.patmos_instr.specs.Bundles.{Slots, FitsBundle}
+use Rattle.patmos_instr.specs.Bundles.{PlainBundle, FitsBundle}
 use Rattle.patmos_instr.specs.declared.guards.Guard.{Guard}
 use Rattle.patmos_instr.specs.declared.instructions.Instr.{Instr}
 use Rattle.patmos_instr.specs.declared.instructions.Op.{Op}
@@ -28,7 +28,8 @@ two_words : (w v first second : ℕ) → 2 ^ 31 ≤ first → w ≡ first - 2 ^ 
     words w (Some v) ≡ (if nat_lt first (2 ^ 31) then first ∷ [] else first ∷ second ∷ [])
 two_words w v first second big e k = grind (arith, nat_tests)
 
-split : (b : Bool) (x y : Option Slots) (P : Slots → Type 0) → (b ≡ true → IfSome x P) → (b ≡ false → IfSome y P) →
+split : (b : Bool) (x y : Option PlainBundle) (P : PlainBundle → Type 0) → (b ≡ true → IfSome x P)
+    → (b ≡ false → IfSome y P) →
     IfSome (if b then x else y) P
 split true x y P f g = f refl
 split false x y P f g = g refl
@@ -155,12 +156,12 @@ slots_back i (Some j) h first second e =
     beside_back i j h.first h.second t.0 t.1 first second e
 
 -- where words stand for a bundle that fits its fields, that bundle is found
-pub bundle_back : (b : Slots) → FitsBundle b → (first second : ℕ) → StandFor first second b
+pub bundle_back : (b : PlainBundle) → FitsBundle b → (first second : ℕ) → StandFor first second b
     → bundle_at first second ≡ Some b
 bundle_back b h first second e = slots_back b.first b.second h first second e
 
 -- the bundle that is found is exactly the one for which the words stand
-pub bundle_exact : (first second : ℕ) → first < 2 ^ 32 → second < 2 ^ 32 → (o : Option Slots) → o
+pub bundle_exact : (first second : ℕ) → first < 2 ^ 32 → second < 2 ^ 32 → (o : Option PlainBundle) → o
     ≡ bundle_at first second → Decodes first second o
 bundle_exact first second f s None e =
     λ b h t. let k : bundle_at first second ≡ Some b = bundle_back b h first second t in cc
@@ -174,7 +175,7 @@ words_stand w None h = (w, 0, one_word w w 0 h refl)
 words_stand w (Some v) h = (2 ^ 31 + w, v, two_words w v (2 ^ 31 + w) v (omega arith) (omega arith) refl)
 
 -- bundles of one code are one bundle
-pub code_apart : (a b : Slots) → FitsBundle a → FitsBundle b → code a ≡ code b → a ≡ b
+pub code_apart : (a b : PlainBundle) → FitsBundle a → FitsBundle b → code a ≡ code b → a ≡ b
 unfolding code
 code_apart a b f g e =
     let t : (first : ℕ) × (second : ℕ)

@@ -1,7 +1,7 @@
 -- To be believed. The words of a bundle: each field of an instruction times the power of two of its place (Patmos
 -- Reference Handbook, instruction formats and opcodes; TP1, our profile, has no other instructions).
 use Rattle.std.specs.Prelude.{◌≡◌, ℕ, ◌+◌, ◌*◌, ◌^◌, List, [], ◌∷◌, Option, Some, None, if◌then◌else◌, nat_lt, MatchOption}
-use Rattle.patmos_instr.specs.Bundles.{Slots, FitsBundle}
+use Rattle.patmos_instr.specs.Bundles.{PlainBundle, FitsBundle}
 use Rattle.patmos_instr.specs.Fields.{offset_bits}
 use Rattle.patmos_instr.specs.Functions.{imm_func_number, alu_func_number, cmp_func_number, pred_func_number, stack_func_number}
 use Rattle.patmos_instr.specs.Guards.{guard_number}
@@ -51,17 +51,17 @@ words first None = first ∷ []
 words first (Some second) = (2 ^ 31 + first) ∷ second ∷ []
 
 -- the code of a bundle: its words, one or two
-unfoldable pub code : Slots → List ℕ
+unfoldable pub code : PlainBundle → List ℕ
 code b = words (instr_code b.first) (second_word b.first.op b.second)
 
 -- two words stand for a bundle: the first has bit 31 clear and is the bundle's code, or it has bit 31
 -- set and both are the bundle's code
-abbrev pub StandFor : ℕ → ℕ → Slots → Type 0
+abbrev pub StandFor : ℕ → ℕ → PlainBundle → Type 0
 StandFor first second b = code b ≡ (if nat_lt first (2 ^ 31) then first ∷ [] else first ∷ second ∷ [])
 
 -- an answer is exact: it is the bundle for which two words stand, or None where they stand for none. In
 -- a contract a field is a plain number, so a bundle is one whose fields are in their ranges
-abbrev pub Decodes : ℕ → ℕ → Option Slots → Type 0
+abbrev pub Decodes : ℕ → ℕ → Option PlainBundle → Type 0
 Decodes first second answer =
-    MatchOption answer ((b : Slots) → FitsBundle b → ¬ StandFor first second b)
+    MatchOption answer ((b : PlainBundle) → FitsBundle b → ¬ StandFor first second b)
     (λ b. FitsBundle b × StandFor first second b)

@@ -2,7 +2,7 @@
 -- an instruction is accepted only where its fields put together give the same word. That it is the
 -- inverse of a bundle's code is what `decode` ensures.
 use Rattle.std.specs.Prelude.{ℕ, ◌-◌, ◌/◌, ◌%◌, ◌^◌, ◌==◌, Option, Some, None, option_map, slice_get, if◌then◌else◌, nat_lt}
-use Rattle.patmos_instr.specs.Bundles.{Slots}
+use Rattle.patmos_instr.specs.Bundles.{PlainBundle}
 use Rattle.patmos_instr.specs.Fields.{offset_of}
 use Rattle.patmos_instr.specs.Functions.{imm_funcs, alu_funcs, cmp_funcs, pred_funcs, stack_funcs}
 use Rattle.patmos_instr.specs.Guards.{guard_of}
@@ -62,22 +62,22 @@ instr_at word constant =
     (option_map (λ op. record { guard = guard_of (word / 2 ^ 27); op = op }) (op_of (five_bits 22 word) word constant))
 
 -- the bundle of one word, whose instruction must not be long
-abbrev pub lone : Option Instr → Option Slots
+abbrev pub lone : Option Instr → Option PlainBundle
 lone None = None
 lone (Some i) = if is_long i.op then None else Some (record { first = i; second = None })
 
 -- the bundle of a first instruction and the one of the second word
-abbrev pub beside : Instr → Option Instr → Option Slots
+abbrev pub beside : Instr → Option Instr → Option PlainBundle
 beside i None = None
 beside i (Some j) = if is_second_kind j.op then Some (record { first = i; second = Some j }) else None
 
 -- the bundle of two words: a long instruction stands alone, any other beside the second word's
-abbrev pub double : Option Instr → Option Instr → Option Slots
+abbrev pub double : Option Instr → Option Instr → Option PlainBundle
 double None _ = None
 double (Some i) second = if is_long i.op then Some (record { first = i; second = None }) else beside i second
 
 -- the bundle for which two words stand
-unfoldable pub bundle_at : ℕ → ℕ → Option Slots
+unfoldable pub bundle_at : ℕ → ℕ → Option PlainBundle
 bundle_at first second =
     if nat_lt first (2 ^ 31) then lone (instr_at first 0)
     else double (instr_at (first - 2 ^ 31) second) (instr_at second 0)

@@ -1,5 +1,5 @@
 ghost use Rattle.std.specs.Prelude.{◌≡◌, ℕ, ◌^◌, ◌<◌, IfSome};
-ghost use Rattle.patmos_instr.specs.Bundles.{Slots, FitsBundle};
+ghost use Rattle.patmos_instr.specs.Bundles.{PlainBundle, FitsBundle};
 ghost use Rattle.patmos_code.specs.Codes.{code, StandFor, Decodes};
 ghost use Rattle.patmos_code.specs.Decoding.{op_of, instr_at, bundle_at, five_bits};
 

@@ -1,5 +1,5 @@
 ghost use Rattle.std.specs.Prelude.{◌≡◌, ℕ, ◌^◌, ◌<◌, [], ◌∷◌, Some, None, IfSome};
-ghost use Rattle.patmos_instr.specs.Bundles.{Slots, FitsBundle};
+ghost use Rattle.patmos_instr.specs.Bundles.{PlainBundle, FitsBundle};
 ghost use Rattle.patmos_code.specs.Codes.{code, StandFor};
 ghost use Rattle.patmos_code.specs.Decoding.{bundle_at};
 ghost use Rattle.patmos_code.specs.Images.{starts_of};
@@ -8,14 +8,14 @@ ghost use Rattle.patmos_code.specs.declared.images.TheConstants.{MOST_IN_FUNCTIO
 
 /// A law for contracts: different bundles have different codes. It does nothing.
 pub fn codes_differ()
-    ensures { (a b : Slots) → FitsBundle a → FitsBundle b → code a ≡ code b → a ≡ b }
+    ensures { (a b : PlainBundle) → FitsBundle a → FitsBundle b → code a ≡ code b → a ≡ b }
 {}
 
 /// A law for contracts: what `bundle_at` computes is exactly the bundle for which two words stand. It
 /// does nothing.
 #[tactic(auto, using(crate::proofs::Bundles::bundle_back, crate::proofs::Bundles::bundle_taken))]
 pub fn decoding_is_exact()
-    ensures found { (b : Slots) → FitsBundle b → (first second : ℕ) → StandFor first second b →
+    ensures found { (b : PlainBundle) → FitsBundle b → (first second : ℕ) → StandFor first second b →
         bundle_at first second ≡ Some b }
     ensures stands { (first second : ℕ) → first < 2 ^ 32 → second < 2 ^ 32 →
         IfSome (bundle_at first second) (λ b. FitsBundle b × StandFor first second b) }

@@ -5,7 +5,7 @@ use Rattle.patmos_instr.specs.Instructions.{is_long, is_second_kind, FitsInstr}
 use Rattle.patmos_instr.specs.declared.instructions.Instr.{Instr}
 
 -- the instructions in a bundle's slots
-pub record Slots : Type 0 where
+pub record PlainBundle : Type 0 where
   pub first : Instr
   pub second : Option Instr
 
@@ -15,7 +15,7 @@ is_legal first None = true
 is_legal first (Some second) = not (is_long first.op) && is_second_kind second.op
 
 -- a bundle: its instructions go together, and each field is in its range
-pub record FitsBundle (b : Slots) : Type 0 where
+pub record FitsBundle (b : PlainBundle) : Type 0 where
   pub legal : IsTrue (is_legal b.first b.second)
   pub first : FitsInstr b.first
   pub second : IfSome b.second FitsInstr

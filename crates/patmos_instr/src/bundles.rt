@@ -27,9 +27,9 @@ pub struct Bundle {
 }
 
 impl Model for Bundle {
-    ghost use Rattle.patmos_instr.specs.Bundles.{Slots, FitsBundle};
+    ghost use Rattle.patmos_instr.specs.Bundles.{PlainBundle, FitsBundle};
 
-    ghost Value = { Slots };
+    ghost Value = { PlainBundle };
 
     ghost view = { λ b. record { first = b.first; second = b.second } };
 

@@ -13,7 +13,7 @@ use Rattle.stack_cache.specs.Stack.{Stack, reserved, spilled, missing, freed}
 use Rattle.argo_ni.specs.Interface.{port_to}
 use Rattle.argo_ni.specs.Packet.{comm_word}
 use Rattle.argo_ni.specs.Start.{with_source, with_target, started}
-use Rattle.patmos_instr.specs.Bundles.{Slots}
+use Rattle.patmos_instr.specs.Bundles.{PlainBundle}
 use Rattle.patmos_instr.specs.declared.functions.StackFunc.{StackFunc}
 use Rattle.patmos_instr.specs.declared.functions.StackFunc.TheVariants.{Sres, Sens, Sfree}
 use Rattle.patmos_instr.specs.declared.memories.Mem.{Mem}
@@ -100,7 +100,7 @@ pub record Gives (May Kind : ℕ → Type 0) (P : Core → Type 0) : Type 0 wher
   pub left : (c : Core) (target : ℕ) → P c → Kind (port_to c.plain.interface target).channel.left
   pub cached : (c : Core) (address word : ℕ) → P c → cache.cached_word c.seen.cached address ≡ Some word → Kind word
   pub awaited : (c : Core) → P c → ThenOf Kind c.plain.transfer.then
-  pub asked : (c : Core) (b : Slots) → P c → (space : Mem) (width : StoreWidth) (address value : ℕ)
+  pub asked : (c : Core) (b : PlainBundle) → P c → (space : Mem) (width : StoreWidth) (address value : ℕ)
       → effect_of b c.plain.regs ≡ effect.Store space width address value → Kind value
   pub comm : (c : Core) (word : ℕ) → P c → word < 512 → May (comm_word c.plain.site.core word)
   pub shared : (c : Core) (word : ℕ) → P c → word < 4096 → May word
@@ -160,7 +160,8 @@ pub record Steps (Kind : ℕ → Type 0) (P : Core → Type 0) : Type 0 where
       → P (with_plain (λ x. record x { transfer = t; free = free }) c)
   pub value : (c : Core) (rd : ℕ) (width : Width) (address word : ℕ) → P c → Kind word
       → P (with_plain (with_value rd width address word) c)
-  pub advances : (c : Core) (b : Slots) (words : ℕ) → P c → fetched_at c.plain.site.image c.plain.base c.plain.offset
+  pub advances : (c : Core) (b : PlainBundle) (words : ℕ) → P c
+      → fetched_at c.plain.site.image c.plain.base c.plain.offset
       ≡ Found b words → P (with_plain (advanced words b) c)
   pub stacks : (c : Core) (func : StackFunc) (count : ℕ) → P c → has_room func count c.plain.stack ≡ true
       → P (with_plain (stack_done func count) c)
@@ -410,7 +411,7 @@ module _ (May Kind : ℕ → Type 0) (P : Core → Type 0) (g : Gives May Kind P
   acts_answered _ cycle c h room kind = (ends_kept cycle c h, tt)
 
   -- a bundle whose checks pass
-  pub acts_found : (b : Slots) (words cycle : ℕ) (c : Core) → P c → P (with_plain (advanced words b) c)
+  pub acts_found : (b : PlainBundle) (words cycle : ℕ) (c : Core) → P c → P (with_plain (advanced words b) c)
       → fault_of c.plain (effect_of b c.plain.regs) ≡ None
       → Acts (answered (effect_of b c.plain.regs) cycle (with_plain (advanced words b) c))
   acts_found b words cycle c h advances none =

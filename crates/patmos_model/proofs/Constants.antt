@@ -2,7 +2,7 @@
 use Rattle.std.proofs.Common.{◌≡◌, ℕ, ◌-◌, ◌^◌, Bool, true, false, Option, Some, None, IfSome, if◌then◌else◌, nat_lt, subst, arith}
 use Rattle.std.proofs.lemmas.Option.{IfSome_then}
 use Rattle.patmos_instr.specs.Instructions.{is_long, is_second_kind, FitsOp}
-use Rattle.patmos_instr.specs.Bundles.{Slots}
+use Rattle.patmos_instr.specs.Bundles.{PlainBundle}
 use Rattle.patmos_instr.specs.declared.instructions.Instr.{Instr}
 use Rattle.patmos_instr.specs.declared.instructions.Op.{Op}
 use Rattle.patmos_instr.specs.declared.instructions.Op.TheVariants.{AluImm, AluLong}
@@ -26,7 +26,7 @@ instr_constant word constant h =
     IfSome_then (instr_at word constant) (instr_taken word constant h) (λ i t. op_constant i.op t.0.1)
 
 -- what holds of either of two bundles
-either_fits : (b : Bool) (x y : Option Slots) → IfSome x ConstantsFit → IfSome y ConstantsFit
+either_fits : (b : Bool) (x y : Option PlainBundle) → IfSome x ConstantsFit → IfSome y ConstantsFit
     → IfSome (if b then x else y) ConstantsFit
 either_fits true x y h k = h
 either_fits false x y h k = k
@@ -51,7 +51,8 @@ double_fits (Some i) p h k =
     (record { first = h; second = tt }) (beside_fits i p h k)
 
 -- the bundle that is found
-pub constants_fit : (first second : ℕ) (b : Slots) → IsWord second → bundle_at first second ≡ Some b → ConstantsFit b
+pub constants_fit : (first second : ℕ) (b : PlainBundle) → IsWord second → bundle_at first second ≡ Some b
+    → ConstantsFit b
 unfolding bundle_at
 constants_fit first second b small e =
     let found : IfSome (bundle_at first second) ConstantsFit =

@@ -14,7 +14,7 @@ use Rattle.argo_ni.specs.Interface.{Interface, port_to}
 use Rattle.argo_ni.specs.Start.{with_source, with_target, answer_to, started}
 use Rattle.argo_ni.specs.Range as ni
 use Rattle.argo_ni.specs.Turn as ni_turn
-use Rattle.patmos_instr.specs.Bundles.{Slots}
+use Rattle.patmos_instr.specs.Bundles.{PlainBundle}
 use Rattle.patmos_instr.specs.declared.functions.StackFunc.{StackFunc}
 use Rattle.patmos_instr.specs.declared.functions.StackFunc.TheVariants.{Sres, Sens, Sfree}
 use Rattle.patmos_instr.specs.declared.memories.StoreWidth.{StoreWidth}
@@ -97,7 +97,7 @@ FetchFits offset Outside = Unit {0}
 FetchFits offset NoBundle = Unit {0}
 FetchFits offset (Found b size) = ConstantsFit b × IsWord (offset + size)
 
-taken_fits : (offset size : ℕ) (found : Option Slots) → ((b : Slots) → found ≡ Some b → ConstantsFit b)
+taken_fits : (offset size : ℕ) (found : Option PlainBundle) → ((b : PlainBundle) → found ≡ Some b → ConstantsFit b)
     → IsWord (offset + size) → FetchFits offset (taken_for size found)
 taken_fits offset size None fits next = tt
 taken_fits offset size (Some b) fits next = (fits b refl, next)
@@ -109,7 +109,7 @@ fetched_fits image base offset code = either (is_inside image base offset) refl
     size : ℕ
     size = bundle_words (word_at image base offset)
 
-    found : Option Slots
+    found : Option PlainBundle
     found = bundle_at (word_at image base offset) (word_at image base (offset + 1))
 
     either : (b : Bool) → is_inside image base offset ≡ b
@@ -173,7 +173,7 @@ set_fits words width address value x h v =
     (merged_word width address old value (each_index x.stack.words (address / 4) h.stack) v)) h.private h.base
     h.offset h.transfer
 
-advances_fit : (words : ℕ) (b : Slots) (size : ℕ) (x : Plain) → PlainFits words x
+advances_fit : (words : ℕ) (b : PlainBundle) (size : ℕ) (x : Plain) → PlainFits words x
     → fetched_at x.site.image x.base x.offset ≡ Found b size → PlainFits words (advanced size b x)
 advances_fit words b size x h found =
     let fits : FetchFits x.offset (Found b size) =

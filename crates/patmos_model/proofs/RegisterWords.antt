@@ -13,7 +13,7 @@ use Rattle.std.proofs.lemmas.Int.{fits_signed_mul}
 use Rattle.std.proofs.lemmas.List.{get_or-replicate, get_or_past}
 use Rattle.std.proofs.lemmas.Nat.{mod_below, div_below, mul-lt, or_lt, xor_lt, and_le_l}
 use Rattle.tc_word.specs.Word.{product, moved_down, high_word}
-use Rattle.patmos_instr.specs.Bundles.{Slots}
+use Rattle.patmos_instr.specs.Bundles.{PlainBundle}
 use Rattle.patmos_instr.specs.declared.functions.AluFunc.{AluFunc}
 use Rattle.patmos_instr.specs.declared.functions.AluFunc.TheVariants as alu
 use Rattle.patmos_instr.specs.declared.instructions.Instr.{Instr}
@@ -212,7 +212,7 @@ told_word n f (x ∷ xs) step h zero = step n x (h 0)
 told_word n f (x ∷ xs) step h (suc r) = told_word (n + 1) f xs step (λ q. h (suc q)) r
 
 -- the registers hold words after a bundle
-pub after_bundle_words : (st ss : ℕ) (b : Slots) (regs : Registers) → HasWords regs → ConstantsFit b
+pub after_bundle_words : (st ss : ℕ) (b : PlainBundle) (regs : Registers) → HasWords regs → ConstantsFit b
     → HasWords (after_bundle st ss b regs)
 after_bundle_words st ss b regs h constants =
     let ws : List Write = all_writes st ss b regs in
@@ -256,7 +256,8 @@ asked_fits regs (Store space width ra rs imm) h = h.general rs
 asked_fits regs _ h = tt
 
 -- a bundle stores a word
-pub stored_word : (b : Slots) (regs : Registers) (space : Mem) (width : StoreWidth) (address value : ℕ) → HasWords regs
+pub stored_word : (b : PlainBundle) (regs : Registers) (space : Mem) (width : StoreWidth) (address value : ℕ)
+    → HasWords regs
     → effect_of b regs ≡ effect.Store space width address value → IsWord value
 stored_word b regs space width address value h e =
     subst StoreFits e

@@ -8,7 +8,7 @@ use Rattle.shared_order.specs.Program.{Prog}
 use Rattle.data_cache.specs.Accesses as cache
 use Rattle.local_store.specs.declared.map.Space.TheVariants.{Local}
 use Rattle.stack_cache.specs.Stack.{Stack, reserved, spilled, missing, freed}
-use Rattle.patmos_instr.specs.Bundles.{Slots}
+use Rattle.patmos_instr.specs.Bundles.{PlainBundle}
 use Rattle.patmos_instr.specs.declared.functions.StackFunc.{StackFunc}
 use Rattle.patmos_instr.specs.declared.functions.StackFunc.TheVariants.{Sres, Sens, Sfree}
 use Rattle.patmos_instr.specs.declared.memories.Mem.{Mem}
@@ -56,7 +56,7 @@ asked_flow offset asked = elim asked [
 ]
 
 -- the bundle's registers, the offset of the next one, and the flow
-abbrev pub advanced : ℕ → Slots → Plain → Plain
+abbrev pub advanced : ℕ → PlainBundle → Plain → Plain
 advanced words b x = record x {
   regs = after_bundle x.stack.st x.stack.ss b x.regs;
   offset = x.offset + words;
@@ -140,14 +140,14 @@ answered asked cycle c = elim asked [
 ]
 
 -- the bundle of so many words is done, unless a check on what it asks for fails
-abbrev pub performed : ℕ → Slots → ℕ → Core → Prog Acted
+abbrev pub performed : ℕ → PlainBundle → ℕ → Core → Prog Acted
 performed words b cycle c = elim (fault_of c.plain (effect_of b c.plain.regs)) [
   | None ↦ answered (effect_of b c.plain.regs) cycle (with_plain (advanced words b) c)
   | Some fault ↦ now (with_plain (stopped fault cycle) c)
 ]
 
 -- what stands at an offset of a function, taken for a bundle
-abbrev pub taken_for : ℕ → Option Slots → Fetched
+abbrev pub taken_for : ℕ → Option PlainBundle → Fetched
 taken_for words found = elim found [ None ↦ NoBundle | Some b ↦ Found b words ]
 
 unfoldable pub fetched_at : Parts → ℕ → ℕ → Fetched

@@ -5,7 +5,7 @@ use Rattle.std.specs.List.{AllByRecursion as Each}
 use Rattle.data_cache.specs.Accesses as cache
 use Rattle.argo_ni.specs.Packet.{comm_word}
 use Rattle.argo_ni.specs.Range as ni
-use Rattle.patmos_instr.specs.Bundles.{Slots}
+use Rattle.patmos_instr.specs.Bundles.{PlainBundle}
 use Rattle.patmos_instr.specs.declared.instructions.Op.{Op}
 use Rattle.patmos_instr.specs.declared.instructions.Op.TheVariants.{AluImm, AluLong}
 use Rattle.patmos_code.specs.Images.{Parts}
@@ -45,7 +45,7 @@ constant_of (AluLong func rd ra constant) = constant
 constant_of _ = 0
 
 -- the constants of a bundle are words
-pub record ConstantsFit (b : Slots) : Type 0 where
+pub record ConstantsFit (b : PlainBundle) : Type 0 where
   pub first : IsWord (constant_of b.first.op)
   pub second : IfSome b.second (λ i. IsWord (constant_of i.op))
 

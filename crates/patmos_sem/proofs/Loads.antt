@@ -1,7 +1,7 @@
 -- A bundle that asks for a load begins no product.
 use Rattle.std.proofs.Common.{◌≡◌, ◌≢◌, ℕ, Bool, true, false, if◌then◌else◌, refl}
 use Rattle.patmos_instr.specs.declared.instructions.Instr.{Instr}
-use Rattle.patmos_instr.specs.Bundles.{Slots}
+use Rattle.patmos_instr.specs.Bundles.{PlainBundle}
 use Rattle.patmos_instr.specs.declared.instructions.Op.{Op}
 use Rattle.patmos_instr.specs.declared.instructions.Op.TheVariants.{AluImm, AluReg, AluLong, Mul, Cmp, CmpImm, Comb, ToSpecial, FromSpecial, Stack, Load, Store, Branch, Call, BranchFill, Return}
 use Rattle.patmos_sem.specs.declared.pending.Pending.{Pending}
@@ -12,7 +12,7 @@ use Rattle.patmos_sem.specs.declared.writes.Write.TheVariants as write
 use Rattle.patmos_sem.specs.Effects.{write_of, begun, asked}
 use Rattle.patmos_sem.specs.Bundles.{slot_write, slot_begun, slot_asked, effect_of, OnLoad}
 
-pub begins_nothing : (b : Slots) (regs : Registers) (left : Pending) → left ≡ slot_begun regs b.first
+pub begins_nothing : (b : PlainBundle) (regs : Registers) (left : Pending) → left ≡ slot_begun regs b.first
     → OnLoad (effect_of b regs) (left ≡ pending.Nothing)
 begins_nothing b regs left same = by (holds regs b.first.guard) b.first.op same
   where

@@ -1,7 +1,7 @@
 -- To be believed. The effect of a bundle (Patmos Reference Handbook, dual issue, delays and predication). Every operand
 -- is read from the registers before the bundle.
 use Rattle.std.specs.Prelude.{ℕ, Option, Some, None, List, [], ◌∷◌, if◌then◌else◌}
-use Rattle.patmos_instr.specs.Bundles.{Slots}
+use Rattle.patmos_instr.specs.Bundles.{PlainBundle}
 use Rattle.patmos_instr.specs.declared.instructions.Instr.{Instr}
 use Rattle.patmos_sem.specs.declared.pending.Pending.{Pending}
 use Rattle.patmos_sem.specs.declared.pending.Pending.TheVariants as pending
@@ -29,19 +29,19 @@ abbrev pub slot_asked : Registers → Instr → Effect
 slot_asked regs i = if holds regs i.guard then asked regs i.op else effect.Nothing
 
 -- the writes of a bundle: the first slot's, then the second's
-abbrev pub own_writes : ℕ → ℕ → Registers → Slots → List Write
+abbrev pub own_writes : ℕ → ℕ → Registers → PlainBundle → List Write
 own_writes st ss regs b = slot_write st ss regs b.first ∷ second_write st ss regs b.second ∷ []
 
 -- all that is written in a bundle: what was pending comes first, so that an own write wins over it
-abbrev pub all_writes : ℕ → ℕ → Slots → Registers → List Write
+abbrev pub all_writes : ℕ → ℕ → PlainBundle → Registers → List Write
 all_writes st ss b regs = came regs.pending ∷ own_writes st ss regs b
 
 -- the registers after a bundle; a product that it began is pending
-abbrev pub after_bundle : ℕ → ℕ → Slots → Registers → Registers
+abbrev pub after_bundle : ℕ → ℕ → PlainBundle → Registers → Registers
 after_bundle st ss b regs = record (after_writes (all_writes st ss b regs) regs) { pending = slot_begun regs b.first }
 
 -- what a bundle asks for: the first slot alone can
-abbrev pub effect_of : Slots → Registers → Effect
+abbrev pub effect_of : PlainBundle → Registers → Effect
 effect_of b regs = slot_asked regs b.first
 
 -- where a load was asked for, this holds

@@ -1,5 +1,5 @@
 ghost use Rattle.std.specs.Prelude.{◌≡◌, ℕ, ◌^◌, ◌-◌, ◌<◌, List, [], ◌∷◌, ◌++◌, length};
-ghost use Rattle.patmos_instr.specs.Bundles.{Slots};
+ghost use Rattle.patmos_instr.specs.Bundles.{PlainBundle};
 ghost use Rattle.patmos_instr.specs.declared.memories.Width.TheVariants as load;
 ghost use Rattle.patmos_instr.specs.declared.memories.StoreWidth.TheVariants as store;
 ghost use Rattle.patmos_sem.specs.Registers.{Registers, FitsRegisters, at_start, word_in, pred_in, preds_number};
@@ -14,13 +14,13 @@ ghost use Rattle.patmos_sem.specs.Worked.{both, add_short, s0_from};
 /// and that before the second's. Register 0 stays 0, and predicate 0 true. Writes after writes are the
 /// writes of both, so a product or a load's value can as well be read as written at once.
 pub fn after_bundle_by_register()
-    ensures general { (st ss : ℕ) (b : Slots) (regs : Registers) (r : ℕ) → r < length regs.general
+    ensures general { (st ss : ℕ) (b : PlainBundle) (regs : Registers) (r : ℕ) → r < length regs.general
         → word_in (after_bundle st ss b regs) r ≡ register_after (all_writes st ss b regs) r (word_in regs r) }
-    ensures preds { (st ss : ℕ) (b : Slots) (regs : Registers) (p : ℕ) → p < length regs.preds
+    ensures preds { (st ss : ℕ) (b : PlainBundle) (regs : Registers) (p : ℕ) → p < length regs.preds
         → pred_in (after_bundle st ss b regs) p ≡ pred_after (all_writes st ss b regs) p (pred_in regs p) }
     ensures joined { (us vs : List Write) (regs : Registers)
         → after_writes vs (after_writes us regs) ≡ after_writes (us ++ vs) regs }
-    ensures files { (st ss : ℕ) (b : Slots) (regs : Registers) → FitsRegisters regs
+    ensures files { (st ss : ℕ) (b : PlainBundle) (regs : Registers) → FitsRegisters regs
         → FitsRegisters (after_bundle st ss b regs) }
 {}
 

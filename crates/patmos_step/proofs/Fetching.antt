@@ -2,7 +2,7 @@
 use Rattle.std.proofs.Common.{◌≡◌, ℕ, ◌+◌, ◌<◌, ◌≤◌, Bool, true, false, List, Option, None, Some, length, sym, subst, ap, ◌∙◌, arith}
 use Rattle.std.proofs.lemmas.Bool.Decides.{nat_tests}
 use Rattle.std.specs.Prelude.{slice_index, slice_index_or}
-use Rattle.patmos_instr.specs.Bundles.{Slots}
+use Rattle.patmos_instr.specs.Bundles.{PlainBundle}
 use Rattle.patmos_code.specs.Decoding.{bundle_at}
 use Rattle.patmos_code.specs.Images.{Parts}
 use Rattle.patmos_model.specs.declared.fetched.Fetched.{Fetched}
@@ -55,7 +55,7 @@ fetched_inside image base offset found stands =
     ]) stands.inside
     ∙ ap (λ d. taken_for d.words d.bundle) (sym stands.is)
 
-pub a_bundle : (image : Parts) (base offset : ℕ) (found : Decoded) (b : Slots) → StandsAt image base offset found
+pub a_bundle : (image : Parts) (base offset : ℕ) (found : Decoded) (b : PlainBundle) → StandsAt image base offset found
     → found.bundle ≡ Some b → Found b found.words ≡ fetched_at image base offset
 a_bundle image base offset found b stands is =
     sym (fetched_inside image base offset found stands ∙ ap (taken_for found.words) is)
@@ -66,7 +66,7 @@ no_bundle image base offset found stands is =
     sym (fetched_inside image base offset found stands ∙ ap (taken_for found.words) is)
 
 -- the bundle that is fetched at a place is the one decoded there
-pub decoded_there : (image : Parts) (code : List Decoded) (base offset words : ℕ) (found d : Decoded) (b : Slots)
+pub decoded_there : (image : Parts) (code : List Decoded) (base offset words : ℕ) (found d : Decoded) (b : PlainBundle)
     → IsCodeOf image.words code
     → base + offset < length image.words → found ≡ slice_index_or code (base + offset) d → fetched_at image base offset
     ≡ Found b words → found.bundle ≡ Some b
@@ -79,7 +79,7 @@ decoded_there image code base offset words found d b codes within at fetched =
     next : base + offset + 1 ≡ base + (offset + 1)
     next = omega arith
 
-    by : (inside : Bool) (here : Option Slots) → elim inside as (λ _. Fetched) [
+    by : (inside : Bool) (here : Option PlainBundle) → elim inside as (λ _. Fetched) [
       | false ↦ Outside
       | true ↦ taken_for
           (bundle_words (word_at image base offset)) here
@@ -89,7 +89,7 @@ decoded_there image code base offset words found d b codes within at fetched =
     by true (Some bundle) h = cc
 
 -- so it is at the offset of a core's function
-pub there_is : (b : Body) (offset words : ℕ) (found d : Decoded) (here bundle : Slots) → offset < b.size → found
+pub there_is : (b : Body) (offset words : ℕ) (found d : Decoded) (here bundle : PlainBundle) → offset < b.size → found
     ≡ slice_index_or b.code.items (b.base + offset) d
     → fetched_at b.image b.base offset ≡ Found bundle words → found.bundle ≡ Some here → here ≡ bundle
 there_is b offset words found d here bundle inside at fetched is =
@@ -97,10 +97,10 @@ there_is b offset words found d here bundle inside at fetched is =
     same_bundle here bundle (sym is ∙ decoded_there b.image b.code.items b.base offset words found d bundle b.decoded
     within at fetched)
   where
-    same_bundle : (a b : Slots) → Some a ≡ Some b → a ≡ b
+    same_bundle : (a b : PlainBundle) → Some a ≡ Some b → a ≡ b
     same_bundle a b h = cc
 
-pub none_there : (b : Body) (offset words : ℕ) (found d : Decoded) (bundle : Slots) → offset < b.size → found
+pub none_there : (b : Body) (offset words : ℕ) (found d : Decoded) (bundle : PlainBundle) → offset < b.size → found
     ≡ slice_index_or b.code.items (b.base + offset) d
     → fetched_at b.image b.base offset ≡ Found bundle words → found.bundle ≡ None → ⊥
 none_there b offset words found d bundle inside at fetched is =
@@ -108,5 +108,5 @@ none_there b offset words found d bundle inside at fetched is =
     no_bundle_there bundle (sym is ∙ decoded_there b.image b.code.items b.base offset words found d bundle b.decoded
     within at fetched)
   where
-    no_bundle_there : (b : Slots) → None ≡ Some b → ⊥
+    no_bundle_there : (b : PlainBundle) → None ≡ Some b → ⊥
     no_bundle_there b h = subst (λ o. elim o as (λ _. Type 0) [ None ↦ Unit {0} | Some x ↦ ⊥ ]) h tt

@@ -15,7 +15,7 @@ use Rattle.data_cache.specs.Accesses.{cached_word}
 use Rattle.data_cache.specs.Accesses as cache
 use Rattle.data_cache.specs.Lines.{word_at}
 use Rattle.stack_cache.specs.Stack.{reserved, spilled, missing, freed}
-use Rattle.patmos_instr.specs.Bundles.{Slots}
+use Rattle.patmos_instr.specs.Bundles.{PlainBundle}
 use Rattle.patmos_instr.specs.declared.functions.StackFunc.{StackFunc}
 use Rattle.patmos_instr.specs.declared.functions.StackFunc.TheVariants.{Sres, Sens, Sfree}
 use Rattle.patmos_instr.specs.declared.memories.Mem.{Mem}
@@ -395,7 +395,7 @@ fault_same x i (effect.Store mem.M width address value) same =
 fault_same x i _ same = refl
 
 -- a bundle, by the check that fails
-performed_asks : (fault : Option Trap) (asked : Effect) (words : ℕ) (b : Slots) (cycle : ℕ) (c : Core)
+performed_asks : (fault : Option Trap) (asked : Effect) (words : ℕ) (b : PlainBundle) (cycle : ℕ) (c : Core)
     (cached : ℕ → Option ℕ) → is_free cycle c.plain ≡ true
     → ((at : ℕ) → cached at ≡ cached_word c.seen.cached at)
     → FollowsAsk (elim fault [ None ↦ effect_ask cycle c.plain.site cached asked | Some trap ↦ asks.Nothing ])

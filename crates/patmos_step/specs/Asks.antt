@@ -11,7 +11,7 @@ use Rattle.local_store.specs.declared.map.Space.TheVariants.{Local, Main}
 use Rattle.local_store.specs.declared.map.Cell.{Cell}
 use Rattle.local_store.specs.declared.map.Cell.TheVariants as cell
 use Rattle.argo_ni.specs.Packet.{comm_word}
-use Rattle.patmos_instr.specs.Bundles.{Slots}
+use Rattle.patmos_instr.specs.Bundles.{PlainBundle}
 use Rattle.patmos_instr.specs.declared.instructions.Op.{Op}
 use Rattle.patmos_instr.specs.declared.instructions.Op.TheVariants as op
 use Rattle.patmos_instr.specs.declared.memories.Mem.{Mem}
@@ -205,7 +205,7 @@ effect_ask cycle site cached asked = elim asked [
 ]
 
 -- what a bundle asks for: nothing where a check fails
-abbrev pub bundle_ask : ℕ → Plain → (ℕ → Option ℕ) → Slots → Ask
+abbrev pub bundle_ask : ℕ → Plain → (ℕ → Option ℕ) → PlainBundle → Ask
 bundle_ask cycle x cached b = elim (fault_of x (effect_of b x.regs)) [
   | None ↦ effect_ask cycle x.site cached (effect_of b x.regs)
   | Some fault ↦ asks.Nothing

@@ -1,6 +1,6 @@
 -- To be believed. The words of an image, each decoded once.
 use Rattle.std.specs.Prelude.{◌≡◌, ℕ, ℤ, ◌+◌, ◌<◌, Bool, true, false, Option, None, Some, List, length, slice_index, slice_index_or}
-use Rattle.patmos_instr.specs.Bundles.{Slots}
+use Rattle.patmos_instr.specs.Bundles.{PlainBundle}
 use Rattle.patmos_instr.specs.declared.instructions.Op.{Op}
 use Rattle.patmos_instr.specs.declared.instructions.Op.TheVariants as op
 use Rattle.patmos_code.specs.Decoding.{bundle_at}
@@ -29,7 +29,7 @@ branch_of (op.Branch by) = Some by
 branch_of _ = None
 
 -- the class of a bundle: one that asks for nothing, a branch whose second slot is empty, or another
-abbrev pub class_in : Slots → Class
+abbrev pub class_in : PlainBundle → Class
 class_in b = elim (is_silent b.first.op) [
   | true ↦ classes.Silent
   | false ↦ elim b.second [
@@ -38,7 +38,7 @@ class_in b = elim (is_silent b.first.op) [
   ]
 ]
 
-unfoldable pub class_of : Option Slots → Class
+unfoldable pub class_of : Option PlainBundle → Class
 class_of bundle = elim bundle [ None ↦ classes.Other | Some b ↦ class_in b ]
 
 -- what begins at a word that this one follows

@@ -1,6 +1,6 @@
 -- To be believed. What a contract sees of statements as they are read: names as their bytes.
 use Rattle.std.specs.Prelude.{List, map}
-use Rattle.patmos_instr.specs.Bundles.{Slots}
+use Rattle.patmos_instr.specs.Bundles.{PlainBundle}
 use Rattle.patmos_syntax.specs.declared.draft_types.Draft as code
 use Rattle.patmos_syntax.specs.declared.draft_types.Draft.TheVariants as drafts
 use Rattle.patmos_syntax.specs.declared.draft_types.DraftInstr as instrs
@@ -20,7 +20,7 @@ abbrev pub shown_instr : instrs.DraftInstr → DraftInstr
 shown_instr i = record { guard = i.guard; draft = shown_draft i.draft }
 
 -- a bundle that is ready, and one that waits for a name
-abbrev pub shown_ready : Slots → DraftBundle
+abbrev pub shown_ready : PlainBundle → DraftBundle
 shown_ready b = record { first = record { guard = b.first.guard; draft = ready b.first.op }; second = b.second }
 
 abbrev pub shown_jump : jumps.Jump → DraftBundle

@@ -14,7 +14,7 @@ use Rattle.patmos_instr.specs.declared.memories.Mem.TheVariants as mem
 use Rattle.patmos_instr.specs.declared.memories.Width.{Width}
 use Rattle.patmos_instr.specs.declared.memories.StoreWidth.{StoreWidth}
 use Rattle.patmos_instr.specs.declared.memories.StoreWidth.TheVariants as store
-use Rattle.patmos_instr.specs.Bundles.{Slots}
+use Rattle.patmos_instr.specs.Bundles.{PlainBundle}
 use Rattle.patmos_sem.specs.declared.effects.Effect.{Effect}
 use Rattle.patmos_sem.specs.declared.effects.Effect.TheVariants as effect
 use Rattle.patmos_sem.specs.Bundles.{effect_of}

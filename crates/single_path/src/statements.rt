@@ -18,7 +18,7 @@ use crate::masks::{
 };
 use crate::part_words::PartWords;
 use c_meaning::{Action, Assignment, Branch, Target};
-use sp_tree::{SpArray, SpCell, SpExpr, SpStmt, SpTarget, copied};
+use sp_tree::{SpExpr, SpStmt, SpTarget, copied};
 use std::alloc::Global;
 use tc_word::{List, OutOfMemory};
 
@@ -82,20 +82,11 @@ fn target_of(alloc: Global, target: &Target) -> Result<SpTarget, OutOfMemory>
 {
     match target {
         Target::Variable { level } => Ok(SpTarget::Frame { slot: level.number }),
-        Target::Scalar { word } => Ok(SpTarget::Scalar {
-            cell: SpCell {
-                region: word.region,
-                word: word.word,
-            },
-        }),
+        Target::Scalar { word } => Ok(SpTarget::Scalar { cell: word.cell }),
         Target::Element { array, index } => {
             let index = copied(alloc, index)?;
             Ok(SpTarget::Element {
-                array: SpArray {
-                    region: array.region,
-                    first: array.first,
-                    length: array.length,
-                },
+                array: array.words,
                 index,
             })
         }

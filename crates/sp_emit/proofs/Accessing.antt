@@ -4,7 +4,7 @@ use Rattle.std.specs.List.{list_all}
 use Rattle.std.proofs.lemmas.Bool.{and_parts, and_from, ltb-true, eqb-true}
 use Rattle.std.proofs.lemmas.List.{append_assoc}
 use Rattle.std.proofs.lemmas.List.Elements.{All-nil, All-cons, All-append}
-use Rattle.patmos_instr.specs.Bundles.{Slots}
+use Rattle.patmos_instr.specs.Bundles.{PlainBundle}
 use Rattle.patmos_instr.specs.declared.functions.StackFunc.TheVariants.{Sres, Sens, Sfree}
 use Rattle.patmos_instr.specs.declared.instructions.Op.{Op}
 use Rattle.patmos_instr.specs.declared.instructions.Op.TheVariants.{AluImm, AluReg, AluLong, Mul, Cmp, CmpImm, Comb, ToSpecial, FromSpecial, Stack, Load, Store, Branch, Call, BranchFill, Return}
@@ -99,7 +99,7 @@ is_near_op (Store mem.C width ra rs imm) = false
 is_near_op (Store mem.M width ra rs imm) = false
 is_near_op _ = true
 
-abbrev pub is_near : Slots → Bool
+abbrev pub is_near : PlainBundle → Bool
 is_near b = is_near_op b.first.op
 
 asks_one : (Named : Use → Type 0) (e : Effect) (m t : Run) → t.asked ≡ m.asked ++ e ∷ [] → MayAsk Named e
@@ -148,13 +148,14 @@ near_effect Named from true (Stack Sfree n) regs m zero_is near =
     asks_one Named (effect.StackOp Sfree n) m _ refl tt refl
 near_effect Named from true _ regs m zero_is near = absurd (true≢false (sym near))
 
-near_once : (Named : Use → Type 0) (from : Sources) (b : Slots) (m : Run) → IsWhole m → is_near b ≡ true
+near_once : (Named : Use → Type 0) (from : Sources) (b : PlainBundle) (m : Run) → IsWhole m → is_near b ≡ true
     → Asks Named [] m (once from b m)
 near_once Named from b m whole near =
     let a = near_effect Named from (holds m.regs b.first.guard) b.first.op m.regs (behind b m) whole.fits.zero near in
     record { news = a.news; is = a.is; may = a.may; loads = a.loads }
 
-pub near_run : (Named : Use → Type 0) (from : Sources) (bs : List Slots) (m : Run) → IsWhole m → list_all is_near bs
+pub near_run : (Named : Use → Type 0) (from : Sources) (bs : List PlainBundle) (m : Run) → IsWhole m
+    → list_all is_near bs
     ≡ true → Asks Named [] m (run from (all_done bs) m)
 near_run Named from [] m whole near = asks_none Named m m refl
 near_run Named from (b ∷ bs) m whole near =
@@ -166,13 +167,14 @@ near_portless : (op : Op) → is_near_op op ≡ true → is_portless_op op ≡ t
 near_portless (Store mem.L width ra rs imm) near = absurd (true≢false (sym near))
 near_portless _ near = refl
 
-near_all : (bs : List Slots) → list_all is_near bs ≡ true → list_all is_portless bs ≡ true
+near_all : (bs : List PlainBundle) → list_all is_near bs ≡ true → list_all is_portless bs ≡ true
 near_all [] near = refl
 near_all (b ∷ bs) near =
     let both = and_parts (is_near b) (list_all is_near bs) near in
     and_from (is_portless b) (list_all is_portless bs) (near_portless b.first.op both.0) (near_all bs both.1)
 
-pub near_asks : (Named : Use → Type 0) (bs : List Slots) → list_all is_near bs ≡ true → AsksOnly Named (all_done bs)
+pub near_asks : (Named : Use → Type 0) (bs : List PlainBundle) → list_all is_near bs ≡ true
+    → AsksOnly Named (all_done bs)
 near_asks Named bs near = record {
   cached = [];
   asks = λ from m whole. near_run Named from bs m whole near;

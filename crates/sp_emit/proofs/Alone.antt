@@ -3,7 +3,7 @@ use Rattle.std.proofs.Common.{◌≡◌, true, refl}
 use Rattle.std.specs.Prelude.{Bool, is_none}
 use Rattle.std.specs.List.{list_all}
 use Rattle.std.proofs.lemmas.Bool.{and_parts, and_from}
-use Rattle.patmos_instr.specs.Bundles.{Slots}
+use Rattle.patmos_instr.specs.Bundles.{PlainBundle}
 use Rattle.sp_tree.specs.Statements.{PlainFunction}
 use Rattle.sp_shape.specs.Bundles.{parts_all}
 use Rattle.sp_shape.specs.Parts.{joined}
@@ -14,10 +14,10 @@ use Rattle.sp_emit.proofs.Quiet.{each_joined, each_so}
 use Rattle.sp_emit.proofs.Steady.{is_firm, place_firm, body_firm}
 use Rattle.sp_emit.specs.declared.stands.Homes.{Homes}
 
-abbrev is_alone : Slots → Bool
+abbrev is_alone : PlainBundle → Bool
 is_alone b = is_none b.second
 
-alone_firm : (b : Slots) → is_firm 8 b ≡ true → is_alone b ≡ true
+alone_firm : (b : PlainBundle) → is_firm 8 b ≡ true → is_alone b ≡ true
 alone_firm b firm = (and_parts (sets_none b.first.op) (is_alone b) (place_firm 8 b firm)).1
 
 pub function_alone : (homes : Homes) (f : PlainFunction) → parts_all (λ b. is_none b.second) (function_code homes f)

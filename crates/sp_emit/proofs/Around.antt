@@ -3,7 +3,7 @@ use Rattle.std.proofs.Common.{◌≡◌, ℕ, zero, suc, ◌+◌, true, Option, 
 use Rattle.std.specs.Prelude.{Bool}
 use Rattle.std.specs.List.{list_all}
 use Rattle.std.proofs.lemmas.Bool.{and_from}
-use Rattle.patmos_instr.specs.Bundles.{Slots}
+use Rattle.patmos_instr.specs.Bundles.{PlainBundle}
 use Rattle.patmos_instr.specs.declared.functions.CmpFunc.TheVariants as cmp
 use Rattle.patmos_instr.specs.declared.functions.ImmFunc.TheVariants as imm
 use Rattle.patmos_instr.specs.declared.functions.PredFunc.TheVariants as comb
@@ -19,7 +19,7 @@ use Rattle.sp_emit.proofs.Codes.{kept_is, brought_is, taken_is, freed_is}
 use Rattle.sp_emit.proofs.FlagWords.{cleared_all}
 use Rattle.sp_emit.specs.declared.stands.Homes.{Homes}
 
-pub begin_all : (holds : Slots → Bool) (homes : Homes) (f : PlainFunction)
+pub begin_all : (holds : PlainBundle → Bool) (homes : Homes) (f : PlainFunction)
     → holds (stack_op Sres (frame_words homes.first f)) ≡ true → ((r : ℕ) → holds (set_short always r 0) ≡ true)
     → ((slot rs : ℕ) → holds (set_word homes.first always slot rs) ≡ true)
     → holds (with_short always imm.Xor MASK MASK 1) ≡ true → ((slot p : ℕ) → flag_of homes.flags slot ≡ Some p
@@ -46,7 +46,8 @@ begin_all holds homes f takes clears sets masks preds tests stores =
     arguments (suc n) = all_append holds (arguments_kept homes.first n) (argument_kept homes.first n) (arguments n)
         (and_from (holds (set_word homes.first always n (FIRST + n))) true (sets n (FIRST + n)) refl)
 
-pub end_all : (holds : Slots → Bool) (homes : ℕ) (f : PlainFunction) → list_all holds (place_loaded homes f) ≡ true
+pub end_all : (holds : PlainBundle → Bool) (homes : ℕ) (f : PlainFunction) → list_all holds (place_loaded homes f)
+    ≡ true
     → holds (read_word homes RESULT f.result) ≡ true → holds (copy MASK OVERRUN) ≡ true
     → holds (stack_op Sfree (frame_words homes f)) ≡ true
     → list_all holds (function_end homes f) ≡ true

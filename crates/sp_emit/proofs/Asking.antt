@@ -1,7 +1,7 @@
 -- Which flows are asked for: each loop's branch in all iterations but the last.
 use Rattle.std.proofs.Common.{◌≡◌, ℕ, suc, ◌+◌, ◌-◌, ◌%◌, ◌^◌, ◌<◌, ◌≤◌, ◌==◌, Bool, true, false, not, if◌then◌else◌, List, [], ◌∷◌, ◌++◌, pos, refl, ap, ◌∙◌, arith, true≢false}
 use Rattle.std.proofs.lemmas.Bool.{and_parts, not-true}
-use Rattle.patmos_instr.specs.Bundles.{Slots}
+use Rattle.patmos_instr.specs.Bundles.{PlainBundle}
 use Rattle.patmos_instr.specs.declared.functions.CmpFunc.TheVariants as cmp
 use Rattle.patmos_instr.specs.declared.functions.ImmFunc.TheVariants as imm
 use Rattle.patmos_instr.specs.declared.functions.StackFunc.TheVariants.{Sres, Sens, Sfree}
@@ -35,7 +35,8 @@ no_way from true (BranchFill target) regs m calm = absurd (true≢false calm)
 no_way from true Return regs m calm = absurd (true≢false calm)
 no_way from true _ regs m calm = refl
 
-pub same_ways : (from : Sources) (bs : List Slots) (m : Run) → are_calm bs ≡ true → (run from (all_done bs) m).ways
+pub same_ways : (from : Sources) (bs : List PlainBundle) (m : Run) → are_calm bs ≡ true
+    → (run from (all_done bs) m).ways
     ≡ m.ways
 same_ways from [] m calm = refl
 same_ways from (b ∷ bs) m calm =
@@ -45,7 +46,7 @@ same_ways from (b ∷ bs) m calm =
 
 -- ---- a branch and its delay slots
 
-abbrev pub back_again : ℕ → List Slots
+abbrev pub back_again : ℕ → List PlainBundle
 back_again p = branch p ∷ idle ∷ idle ∷ []
 
 -- where the predicate holds the branch is asked for, else none

@@ -2,7 +2,7 @@
 use Rattle.std.proofs.Common.{◌≡◌, ℕ, ◌+◌, ◌-◌, ◌*◌, ◌/◌, ◌%◌, ◌^◌, ◌<◌, ◌≤◌, ◌==◌, Bool, true, false, if◌then◌else◌, List, [], ◌∷◌, ◌++◌, refl, sym, ap, ◌∙◌, arith, ne_eqb}
 use Rattle.std.specs.List.{list_all}
 use Rattle.std.proofs.lemmas.Nat.{div-add-mod'}
-use Rattle.patmos_instr.specs.Bundles.{Slots}
+use Rattle.patmos_instr.specs.Bundles.{PlainBundle}
 use Rattle.patmos_instr.specs.declared.functions.AluFunc.TheVariants as alu
 use Rattle.patmos_instr.specs.declared.functions.CmpFunc.TheVariants as cmp
 use Rattle.patmos_instr.specs.declared.functions.ImmFunc.TheVariants as imm
@@ -123,7 +123,7 @@ factor_rest_leaves from rd ra most n m whole some few low exact le word_n word =
 -- ---- signed words
 
 -- what code makes of the dividend without its sign, with the sign
-signed_leaves : (from : Sources) (rd ra : ℕ) (code : List Slots) (v : ℕ) (m : Run) → IsWhole m → 1 ≤ rd → rd < 32
+signed_leaves : (from : Sources) (rd ra : ℕ) (code : List PlainBundle) (v : ℕ) (m : Run) → IsWhole m → 1 ≤ rd → rd < 32
     → ra < 32 → held ra m < 2 ^ 32 → list_all (leaves (predicate TEST)) code ≡ true
     → ((t : Run) → IsWhole t → held DIVIDEND t ≡ size_of (held ra m) → held rd (run from (all_done code) t) ≡ v)
     → held rd (run from (all_done (signed_to rd ra code)) m) ≡ signed (has_bit (held ra m) 31) v

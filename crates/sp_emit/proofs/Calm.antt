@@ -3,7 +3,7 @@ use Rattle.std.proofs.Common.{◌≡◌, ℕ, zero, suc, ◌<◌, ◌≤◌, ◌
 use Rattle.std.specs.Prelude.{nat_le, nat_lt}
 use Rattle.std.specs.List.{list_all}
 use Rattle.std.proofs.lemmas.Bool.{and_parts, and_from, or_cases, not-true, leb-true, ltb-true, eqb-true, eqb-false}
-use Rattle.patmos_instr.specs.Bundles.{Slots}
+use Rattle.patmos_instr.specs.Bundles.{PlainBundle}
 use Rattle.patmos_instr.specs.declared.guards.Guard.{Guard}
 use Rattle.patmos_instr.specs.declared.instructions.Instr.{Instr}
 use Rattle.patmos_instr.specs.declared.instructions.Op.{Op}
@@ -49,7 +49,7 @@ is_calm_op rd homes (Comb func pd a b) = is_passing pd
 is_calm_op rd homes (Branch offset) = true
 is_calm_op _ homes _ = false
 
-abbrev pub is_calm : ℕ → ℕ → Slots → Bool
+abbrev pub is_calm : ℕ → ℕ → PlainBundle → Bool
 is_calm rd homes b = is_calm_op rd homes b.first.op && is_none b.second
 
 -- a trail of such bundles
@@ -229,7 +229,8 @@ calm_effect from rd homes true (Store space width ra rs imm) regs m calm = absur
 calm_effect from rd homes true (Stack func count) regs m calm = absurd (true≢false (sym calm))
 calm_effect from rd homes true _ regs m calm = record { stack = refl; st = refl; memory = refl }
 
-calm_bundle : (from : Sources) (rd homes : ℕ) (b : Slots) (m : Run) → rd < 32 → IsWhole m → is_calm rd homes b ≡ true
+calm_bundle : (from : Sources) (rd homes : ℕ) (b : PlainBundle) (m : Run) → rd < 32 → IsWhole m
+    → is_calm rd homes b ≡ true
     → Keeps rd homes m (once from b m)
 calm_bundle from rd homes b m few whole calm = record {
   whole = after;
@@ -294,7 +295,7 @@ calm_copies : (rd homes n : ℕ) (xs : List Step) → is_calm_trail rd homes xs 
 calm_copies rd homes zero xs a = refl
 calm_copies rd homes (suc n) xs a = calm_append rd homes xs (copies n xs) a (calm_copies rd homes n xs a)
 
-calm_done : (rd homes : ℕ) (bs : List Slots) → list_all (is_calm rd homes) bs ≡ true
+calm_done : (rd homes : ℕ) (bs : List PlainBundle) → list_all (is_calm rd homes) bs ≡ true
     → is_calm_trail rd homes (all_done bs) ≡ true
 calm_done rd homes [] a = refl
 calm_done rd homes (b ∷ bs) a =

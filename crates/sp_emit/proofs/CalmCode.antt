@@ -3,7 +3,7 @@ use Rattle.std.proofs.Common.{◌≡◌, ℕ, ◌<◌, ◌≤◌, ◌==◌, true
 use Rattle.std.specs.Prelude.{nat_le, nat_lt}
 use Rattle.std.specs.List.{list_all}
 use Rattle.std.proofs.lemmas.Bool.{and_parts, and_from, or_left, or_right, le-leb, lt-ltb}
-use Rattle.patmos_instr.specs.Bundles.{Slots}
+use Rattle.patmos_instr.specs.Bundles.{PlainBundle}
 use Rattle.sp_tree.specs.declared.expressions.SpArray.{SpArray}
 use Rattle.sp_tree.specs.declared.expressions.SpCell.{SpCell}
 use Rattle.sp_tree.specs.declared.operators.SpBinary.{SpBinary}
@@ -32,7 +32,7 @@ joined_calm rd homes (part p xs) ys a b =
     let both = and_parts (part_calm rd homes p) (parts_calm rd homes xs) a in
     and_from (part_calm rd homes p) (parts_calm rd homes (joined xs ys)) both.0 (joined_calm rd homes xs ys both.1 b)
 
-pub lone_calm : (rd homes : ℕ) (bs : List Slots) → list_all (is_calm rd homes) bs ≡ true
+pub lone_calm : (rd homes : ℕ) (bs : List PlainBundle) → list_all (is_calm rd homes) bs ≡ true
     → parts_calm rd homes (one (straight bs)) ≡ true
 lone_calm rd homes bs a = and_from (list_all (is_calm rd homes) bs) true a refl
 
@@ -71,7 +71,8 @@ divides low homes le = record {
   digits = spare_free low homes 31 (omega (arith, le)) (omega arith);
 }
 
-around_calm : (low homes : ℕ) (before behind : List Slots) → Divides low homes → list_all (is_calm low homes) before
+around_calm : (low homes : ℕ) (before behind : List PlainBundle) → Divides low homes
+    → list_all (is_calm low homes) before
     ≡ true → list_all (is_calm low homes) behind ≡ true → parts_calm low homes (around before behind) ≡ true
 around_calm low homes before behind d a b =
     let iteration : list_all (is_calm low homes) digit_tail ≡ true =

@@ -5,7 +5,7 @@ use Rattle.std.proofs.lemmas.Bool.{cases_lt, and_parts, leb-true, ltb-true}
 use Rattle.sp_tree.specs.Statements.{PlainFunction, no_function}
 use Rattle.sp_shape.specs.Parts.{PlainParts, no_part}
 use Rattle.sp_shape.specs.Trail.{Step, trails}
-use Rattle.patmos_instr.specs.Bundles.{Slots}
+use Rattle.patmos_instr.specs.Bundles.{PlainBundle}
 use Rattle.patmos_instr.specs.declared.functions.StackFunc.TheVariants.{Sres, Sfree}
 use Rattle.sp_emit.specs.Chains.{stmts_call}
 use Rattle.sp_emit.specs.Instructions.{stack_op}
@@ -91,7 +91,7 @@ flag_tops_past fs n k past = past_all (flag_tops fs n) k 4 (let same = grown_len
 
 -- ---- the place to which a function returns is kept, or stays
 
-pub kept_is : (P : List Slots → Type 0) (homes : ℕ) (f : PlainFunction)
+pub kept_is : (P : List PlainBundle → Type 0) (homes : ℕ) (f : PlainFunction)
     → (stmts_call f.body ≡ true → P (place_stored homes f)) → P [] → P (place_kept homes f)
 kept_is P homes f here there = by (stmts_call f.body) refl
   where
@@ -99,7 +99,7 @@ kept_is P homes f here there = by (stmts_call f.body) refl
     by true is = here is
     by false is = there
 
-pub brought_is : (P : List Slots → Type 0) (homes : ℕ) (f : PlainFunction)
+pub brought_is : (P : List PlainBundle → Type 0) (homes : ℕ) (f : PlainFunction)
     → (stmts_call f.body ≡ true → P (place_loaded homes f)) → P [] → P (place_brought homes f)
 brought_is P homes f here there = by (stmts_call f.body) refl
   where
@@ -109,11 +109,11 @@ brought_is P homes f here there = by (stmts_call f.body) refl
 
 -- ---- words of the stack are taken and freed, or there are none
 
-pub taken_is : (P : List Slots → Type 0) (n : ℕ) → P [] → P (stack_op Sres n ∷ []) → P (words_taken n)
+pub taken_is : (P : List PlainBundle → Type 0) (n : ℕ) → P [] → P (stack_op Sres n ∷ []) → P (words_taken n)
 taken_is P zero none some = none
 taken_is P (suc n) none some = some
 
-pub freed_is : (P : List Slots → Type 0) (n : ℕ) → P [] → P (stack_op Sfree n ∷ []) → P (words_freed n)
+pub freed_is : (P : List PlainBundle → Type 0) (n : ℕ) → P [] → P (stack_op Sfree n ∷ []) → P (words_freed n)
 freed_is P zero none some = none
 freed_is P (suc n) none some = some
 

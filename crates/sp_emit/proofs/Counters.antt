@@ -1,6 +1,6 @@
 -- A loop's counter, in a register or in the frame, counts its iterations, whatever loads from other memories give.
 use Rattle.std.proofs.Common.{◌≡◌, ℕ, zero, suc, ◌+◌, ◌^◌, ◌<◌, ◌≤◌, ◌==◌, true, not, List, [], ◌∷◌, ◌++◌, refl, sym, ap, ◌∙◌, subst, arith, ne_eqb}
-use Rattle.patmos_instr.specs.Bundles.{Slots}
+use Rattle.patmos_instr.specs.Bundles.{PlainBundle}
 use Rattle.patmos_instr.specs.declared.functions.CmpFunc.TheVariants as cmp
 use Rattle.patmos_instr.specs.declared.functions.ImmFunc.TheVariants as imm
 use Rattle.sp_shape.proofs.Whole.{once_whole, run_append}
@@ -26,7 +26,7 @@ still : (homes counter n : ℕ) (m t : Run) → Passes (homes + counter) (stack_
 still homes counter n m t p is = behind_word homes counter m t p.keeps ∙ is
 
 -- up to the branch
-abbrev counter_tested : ℕ → ℕ → List Slots
+abbrev counter_tested : ℕ → ℕ → List PlainBundle
 counter_tested homes counter =
     fetch_word homes counter
     ∷ with_short always imm.Sub (fetched_at homes counter) (fetched_at homes counter) 1

@@ -1,6 +1,6 @@
 -- The loop of a division makes all its iterations.
 use Rattle.std.proofs.Common.{◌≡◌, ℕ, zero, suc, ◌^◌, ◌<◌, ◌==◌, not, List, [], ◌∷◌, ◌++◌, refl, ap, ◌∙◌, arith, ne_eqb}
-use Rattle.patmos_instr.specs.Bundles.{Slots}
+use Rattle.patmos_instr.specs.Bundles.{PlainBundle}
 use Rattle.patmos_instr.specs.declared.functions.CmpFunc.TheVariants as cmp
 use Rattle.patmos_instr.specs.declared.functions.ImmFunc.TheVariants as imm
 use Rattle.sp_shape.proofs.Whole.{once_whole, run_whole}
@@ -88,7 +88,7 @@ operands_set from ra rb m whole =
     ∙ got DIGITS _ n h (omega arith) (omega arith)
 
 around_iterations : (from : Sources) (f : ℕ → List Step) (Called : ℕ → Run → Type 0) (back : Back)
-    (before behind : List Slots) (m : Run) → IsWhole m → held DIGITS (run from (all_done before) m) ≡ 8
+    (before behind : List PlainBundle) (m : Run) → IsWhole m → held DIGITS (run from (all_done before) m) ≡ 8
     → PartsIteration (run from) f Called back (around before behind) m
 around_iterations from f Called back before behind m whole is =
     let n = run from (all_done before) m in
@@ -105,13 +105,13 @@ around_iterations from f Called back before behind m whole is =
     )
 
 pub division_iterations : (from : Sources) (f : ℕ → List Step) (Called : ℕ → Run → Type 0) (back : Back) (ra rb : ℕ)
-    (behind : List Slots) (m : Run) → IsWhole m → PartsIteration (run from) f Called back (around
+    (behind : List PlainBundle) (m : Run) → IsWhole m → PartsIteration (run from) f Called back (around
     (operands ra rb) behind) m
 division_iterations from f Called back ra rb behind m whole =
     around_iterations from f Called back (operands ra rb) behind m whole (operands_set from ra rb m whole)
 
 pub signed_division_iterations : (from : Sources) (f : ℕ → List Step) (Called : ℕ → Run → Type 0) (back : Back)
-    (p q ra rb : ℕ) (behind : List Slots) (m : Run) → IsWhole m → PartsIteration (run from) f Called back (around
+    (p q ra rb : ℕ) (behind : List PlainBundle) (m : Run) → IsWhole m → PartsIteration (run from) f Called back (around
     (operands ra rb ++ without_signs p q) behind) m
 signed_division_iterations from f Called back p q ra rb behind m whole =
     let n = run from (all_done (operands ra rb)) m in

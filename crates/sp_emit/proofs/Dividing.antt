@@ -3,7 +3,7 @@ use Rattle.std.proofs.Common.{◌≡◌, ℕ, zero, suc, ◌+◌, ◌-◌, ◌*�
 use Rattle.std.specs.Prelude.{nat_le, ◌&&◌}
 use Rattle.std.specs.List.{list_all}
 use Rattle.std.proofs.lemmas.Bool.{and_parts}
-use Rattle.patmos_instr.specs.Bundles.{Slots}
+use Rattle.patmos_instr.specs.Bundles.{PlainBundle}
 use Rattle.patmos_instr.specs.declared.functions.AluFunc.TheVariants as alu
 use Rattle.patmos_instr.specs.declared.functions.CmpFunc.TheVariants as cmp
 use Rattle.patmos_instr.specs.declared.functions.ImmFunc.TheVariants as imm
@@ -36,12 +36,12 @@ pub record Divides (negative : Bool) (dividend rest divisor : ℕ) (m : Run) : T
   pub divisor_is : held DIVISOR m ≡ divisor
 
 -- bundles that write none of them
-abbrev pub leaves_division : List Slots → Bool
+abbrev pub leaves_division : List PlainBundle → Bool
 leaves_division bs =
     list_all (leaves (predicate SECOND)) bs && (list_all (leaves (register DIVIDEND)) bs
     && (list_all (leaves (register REMAINDER)) bs && list_all (leaves (register DIVISOR)) bs))
 
-pub still_divides : (from : Sources) (negative : Bool) (dividend rest divisor : ℕ) (bs : List Slots) (m : Run)
+pub still_divides : (from : Sources) (negative : Bool) (dividend rest divisor : ℕ) (bs : List PlainBundle) (m : Run)
     → leaves_division bs ≡ true → Divides negative dividend rest divisor m
     → Divides negative dividend rest divisor (run from (all_done bs) m)
 still_divides from negative dividend rest divisor bs m quiet d =
@@ -78,7 +78,7 @@ stands_apart from negative dividend rest divisor m d = record {
 -- ---- up to the test
 
 -- a digit's bundles up to whether the divisor goes into what is left
-abbrev compared : List Slots
+abbrev compared : List PlainBundle
 compared =
     compute always alu.Shadd REMAINDER REMAINDER SPARE
     ∷ compute always alu.Add DIVIDEND DIVIDEND DIVIDEND
@@ -146,7 +146,7 @@ written_where from p rd v op m whole some few is quiet nothing = by (so p m) ref
     by false off = ap (held rd) (did_nothing from (where_so p) op m whole off)
 
 -- the divisor goes off what is left, and the quotient's digit is 1, where the test holds
-abbrev taken_off : List Slots
+abbrev taken_off : List PlainBundle
 taken_off = compute (where_so TEST) alu.Sub REMAINDER REMAINDER DIVISOR ∷ with_short (where_so TEST) imm.Add DIVIDEND
     DIVIDEND 1 ∷ []
 
@@ -212,7 +212,7 @@ digit_done from negative dividend rest divisor m t =
       bit_is = o.bit_is;
     }
 
-still_iterations : (from : Sources) (negative : Bool) (dividend rest divisor : ℕ) (bs : List Slots) (m : Run)
+still_iterations : (from : Sources) (negative : Bool) (dividend rest divisor : ℕ) (bs : List PlainBundle) (m : Run)
     → leaves_division bs ≡ true → list_all (leaves (register SPARE)) bs ≡ true
     → Iterations negative dividend rest divisor m
     → Iterations negative dividend rest divisor (run from (all_done bs) m)
@@ -257,7 +257,8 @@ iterations_done from negative (suc n) d divisor m t =
     (iteration_done from negative d divisor m t))
 
 -- the first bit stands apart after what is before
-pub run_before : (from : Sources) (before : List Slots) (m : Run) → run from (all_done (before ++ highest_bit ∷ [])) m
+pub run_before : (from : Sources) (before : List PlainBundle) (m : Run)
+    → run from (all_done (before ++ highest_bit ∷ [])) m
     ≡ once from highest_bit (run from (all_done before) m)
 run_before from before m = ap (λ l. run from l m) (done_append before (highest_bit ∷ []))
     ∙ run_append from (all_done before) (all_done (highest_bit ∷ [])) m

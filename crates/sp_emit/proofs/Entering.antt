@@ -3,7 +3,7 @@ use Rattle.std.proofs.Common.{◌≡◌, ℕ, ◌+◌, ◌-◌, ◌^◌, ◌<◌
 use Rattle.std.specs.Prelude.{bit_xor}
 use Rattle.std.specs.Int.Bits.{xor_assoc, xor_zero_r}
 use Rattle.shared_order.specs.Words.{put}
-use Rattle.patmos_instr.specs.Bundles.{Slots}
+use Rattle.patmos_instr.specs.Bundles.{PlainBundle}
 use Rattle.patmos_instr.specs.declared.functions.CmpFunc.TheVariants as cmp
 use Rattle.patmos_instr.specs.declared.functions.ImmFunc.TheVariants as imm
 use Rattle.patmos_instr.specs.declared.instructions.Op.TheVariants.{FromSpecial}
@@ -173,7 +173,7 @@ special_enters homes slots top frame at s words w m t past named most below x =
     (stored_enters homes slots top frame at SPARE words w m n past named most below y)
 
 -- the place to which the function returns is kept, where it calls others
-abbrev place_of : ℕ → Bool → List Slots
+abbrev place_of : ℕ → Bool → List PlainBundle
 place_of base calls =
     if calls then from_special SPARE special.Srb ∷ store_slot always base SPARE ∷ from_special SPARE special.Sro
     ∷ store_slot always (base + 1) SPARE ∷ [] else []

@@ -5,7 +5,7 @@ use Rattle.std.specs.List.{list_all}
 use Rattle.std.proofs.lemmas.Nat.{and_mask}
 use Rattle.std.proofs.Math.Bool.{and-true, and-false}
 use Rattle.std.proofs.lemmas.Bool.{and_parts, eqb-true, ltb-true}
-use Rattle.patmos_instr.specs.Bundles.{Slots}
+use Rattle.patmos_instr.specs.Bundles.{PlainBundle}
 use Rattle.patmos_instr.specs.declared.functions.CmpFunc.{CmpFunc}
 use Rattle.patmos_instr.specs.declared.functions.CmpFunc.TheVariants as cmp
 use Rattle.patmos_instr.specs.declared.functions.PredFunc.{PredFunc}
@@ -259,11 +259,12 @@ stood {homes} {slots} {s} {m} (between_two op a b) p shows whole named is = by (
 
 -- ---- what is kept before the bundle that sets the predicate
 
-calm_tests : (homes : Homes) (bs : List Slots) → AreTests bs → parts_calm FIRST homes.first (one (straight bs)) ≡ true
+calm_tests : (homes : Homes) (bs : List PlainBundle) → AreTests bs → parts_calm FIRST homes.first (one (straight bs))
+    ≡ true
 calm_tests homes bs tests =
     lone_calm FIRST homes.first bs (all_weaker is_test_bundle (is_calm FIRST homes.first) (test_calm homes) bs tests)
   where
-    test_calm : (homes : Homes) (b : Slots) → is_test_bundle b ≡ true → is_calm FIRST homes.first b ≡ true
+    test_calm : (homes : Homes) (b : PlainBundle) → is_test_bundle b ≡ true → is_calm FIRST homes.first b ≡ true
     test_calm homes b test = grind (arith, test)
 
 bit_calm : (homes : Homes) (slot : ℕ) → is_calm_trail FIRST homes.first (all_done (bit_sought homes.first slot)) ≡ true
@@ -543,7 +544,7 @@ paired_told {homes} {slots} {s} {m} f op a b r pair told =
     before : Run
     before = run by_words (parts_trail f (truth_code homes a)) m
 
-    keep : List Slots
+    keep : List PlainBundle
     keep = combine comb.Por SECOND TEST TEST ∷ []
 
     calm_a : parts_calm FIRST homes.first (truth_code homes a) ≡ true

@@ -4,7 +4,7 @@ use Rattle.std.specs.Prelude.{is_none, is_some}
 use Rattle.std.specs.List.{list_all}
 use Rattle.std.proofs.lemmas.Bool.{and_parts, and_from, eqb-true, leb-true, ltb-true}
 use Rattle.sp_shape.proofs.Lists.{all_append}
-use Rattle.patmos_instr.specs.Bundles.{Slots}
+use Rattle.patmos_instr.specs.Bundles.{PlainBundle}
 use Rattle.patmos_instr.specs.declared.functions.CmpFunc.TheVariants as cmp
 use Rattle.patmos_instr.specs.declared.functions.ImmFunc.TheVariants as imm
 use Rattle.patmos_instr.specs.declared.functions.PredFunc.TheVariants as comb
@@ -108,7 +108,7 @@ pub is_none_off : (o : Option ℕ) → is_some o ≡ false → o ≡ None
 is_none_off None off = refl
 is_none_off (Some p) off = absurd (true≢false off)
 
-pub seek_is : (P : Slots → Type 0) (homes : Homes) (mask : ℕ) → P idle → P (fetch_word homes.first mask)
+pub seek_is : (P : PlainBundle → Type 0) (homes : Homes) (mask : ℕ) → P idle → P (fetch_word homes.first mask)
     → P (seek_word homes mask)
 unfolding seek_op
 seek_is P homes mask none some = by (flag_of homes.flags mask)
@@ -117,7 +117,7 @@ seek_is P homes mask none some = by (flag_of homes.flags mask)
     by None = some
     by (Some p) = none
 
-pub match_is : (P : Slots → Type 0) (homes : Homes) (mask : ℕ) → P idle
+pub match_is : (P : PlainBundle → Type 0) (homes : Homes) (mask : ℕ) → P idle
     → P (compare_short cmp.Eq TEST (fetched_at homes.first mask) 1) → P (match_word homes mask)
 unfolding match_op
 match_is P homes mask none some = by (flag_of homes.flags mask)
@@ -126,7 +126,7 @@ match_is P homes mask none some = by (flag_of homes.flags mask)
     by None = some
     by (Some p) = none
 
-pub test_is : (P : List Slots → Type 0) (homes : Homes) (mask : ℕ) → ((p : ℕ) → flag_of homes.flags mask ≡ Some p
+pub test_is : (P : List PlainBundle → Type 0) (homes : Homes) (mask : ℕ) → ((p : ℕ) → flag_of homes.flags mask ≡ Some p
     → P (idle ∷ idle ∷ []))
     → (flag_of homes.flags mask ≡ None
     → P (fetch_word homes.first mask ∷ compare_short cmp.Eq TEST (fetched_at homes.first mask) 1 ∷ []))
@@ -156,7 +156,8 @@ told_other homes mask = by (flag_of homes.flags mask) refl
     by (Some p) is same = let least = (flag_range homes.flags mask p is).0 in omega (arith, same, least)
 
 -- a mask that is handed to a function
-pub handed_is : (P : List Slots → Type 0) (homes : Homes) (mask : ℕ) → ((p : ℕ) → flag_of homes.flags mask ≡ Some p
+pub handed_is : (P : List PlainBundle → Type 0) (homes : Homes) (mask : ℕ)
+    → ((p : ℕ) → flag_of homes.flags mask ≡ Some p
     → P (set_short always MASK 1 ∷ set_short (where_so p) MASK 0 ∷ []))
     → (flag_of homes.flags mask ≡ None → P (read_word homes.first MASK mask ∷ with_short always imm.Xor MASK MASK 1
     ∷ [])) → P (mask_handed homes mask)
@@ -168,7 +169,7 @@ handed_is P homes mask flagged none = by (flag_of homes.flags mask) refl
     by (Some p) is = flagged p is
 
 -- words that are cleared
-cleared_one : (holds : Slots → Bool) (homes : Homes) (slot : ℕ) → ((p : ℕ) → flag_of homes.flags slot ≡ Some p
+cleared_one : (holds : PlainBundle → Bool) (homes : Homes) (slot : ℕ) → ((p : ℕ) → flag_of homes.flags slot ≡ Some p
     → holds (combine comb.Pxor p 0 0) ≡ true) → holds (set_short always (homes.first + slot) 0) ≡ true
     → list_all holds (word_cleared homes slot) ≡ true
 unfolding cleared_in
@@ -182,7 +183,8 @@ cleared_one holds homes slot pred one = by (flag_of homes.flags slot) refl
     by None is = in_it (in_register homes.first slot)
     by (Some p) is = and_from (holds (combine comb.Pxor p 0 0)) true (pred p is) refl
 
-pub cleared_within : (holds : Slots → Bool) (homes : Homes) (n : ℕ) → ((slot p : ℕ) → flag_of homes.flags slot ≡ Some p
+pub cleared_within : (holds : PlainBundle → Bool) (homes : Homes) (n : ℕ)
+    → ((slot p : ℕ) → flag_of homes.flags slot ≡ Some p
     → holds (combine comb.Pxor p 0 0) ≡ true) → ((slot : ℕ) → slot < n → holds (set_short always (homes.first + slot) 0)
     ≡ true) → list_all holds (words_cleared homes n) ≡ true
 cleared_within holds homes zero pred each = refl
@@ -190,7 +192,8 @@ cleared_within holds homes (suc n) pred each =
     all_append holds (words_cleared homes n) (word_cleared homes n) (cleared_within holds homes n pred
     (λ slot lt. each slot (omega (arith, lt)))) (cleared_one holds homes n (pred n) (each n (omega arith)))
 
-pub cleared_all : (holds : Slots → Bool) (homes : Homes) (n : ℕ) → ((slot p : ℕ) → flag_of homes.flags slot ≡ Some p
+pub cleared_all : (holds : PlainBundle → Bool) (homes : Homes) (n : ℕ)
+    → ((slot p : ℕ) → flag_of homes.flags slot ≡ Some p
     → holds (combine comb.Pxor p 0 0) ≡ true) → ((r : ℕ) → holds (set_short always r 0) ≡ true)
     → list_all holds (words_cleared homes n) ≡ true
 cleared_all holds homes n pred each = cleared_within holds homes n pred (λ slot lt. each (homes.first + slot))

@@ -3,7 +3,7 @@ use Rattle.std.proofs.Common.{◌≡◌, ℕ, zero, suc, ◌+◌, ◌-◌, ◌�
 use Rattle.std.proofs.lemmas.Bool.{and_parts, and_from}
 use Rattle.std.specs.Prelude.{not, nat_lt, nat_le, nat_eq, ◌&&◌}
 use Rattle.std.specs.List.{list_all}
-use Rattle.patmos_instr.specs.Bundles.{Slots}
+use Rattle.patmos_instr.specs.Bundles.{PlainBundle}
 use Rattle.patmos_instr.specs.declared.instructions.Op.{Op}
 use Rattle.c_world.specs.declared.region.Region.{Region}
 use Rattle.c_world.specs.declared.region.Region.TheVariants as region
@@ -56,7 +56,7 @@ both n (part p a) b fa fb =
     let parts = and_parts (part_formed n p) (parts_formed n a) fa in
     and_from (part_formed n p) (parts_formed n (joined a b)) parts.0 (both n a b parts.1 fb)
 
-lone : (n : ℕ) (bs : List Slots) → are_calm bs ≡ true → parts_formed n (one (straight bs)) ≡ true
+lone : (n : ℕ) (bs : List PlainBundle) → are_calm bs ≡ true → parts_formed n (one (straight bs)) ≡ true
 lone n bs calm = and_from (are_calm bs) true calm refl
 
 -- ---- expressions
@@ -140,13 +140,13 @@ expr_formed homes n e rd to =
 
 -- ---- truths
 
-tests_formed : (n : ℕ) (bs : List Slots) → AreTests bs → parts_formed n (one (straight bs)) ≡ true
+tests_formed : (n : ℕ) (bs : List PlainBundle) → AreTests bs → parts_formed n (one (straight bs)) ≡ true
 tests_formed n bs tests = lone n bs (calm bs tests)
   where
-    still : (b : Slots) → is_test_bundle b ≡ true → is_flow b.first.op ≡ false
+    still : (b : PlainBundle) → is_test_bundle b ≡ true → is_flow b.first.op ≡ false
     still b is = grind (arith, is)
 
-    calm : (bs : List Slots) → AreTests bs → are_calm bs ≡ true
+    calm : (bs : List PlainBundle) → AreTests bs → are_calm bs ≡ true
     calm [] is = refl
     calm (b ∷ bs) is = let x = and_parts (is_test_bundle b) (list_all is_test_bundle bs) is in
         and_from (not (is_flow b.first.op)) (are_calm bs) (ap not (still b x.0)) (calm bs x.1)

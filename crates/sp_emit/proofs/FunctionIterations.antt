@@ -11,7 +11,7 @@ use Rattle.patmos_instr.specs.declared.specials.Special.TheVariants as special
 use Rattle.patmos_instr.specs.declared.specials.WritableSpecial.TheVariants as writable
 use Rattle.patmos_sem.specs.Effects.{special_in}
 use Rattle.sp_tree.specs.Formed.{slots_of, function_formed, functions_formed, entry_formed, is_formed}
-use Rattle.patmos_instr.specs.Bundles.{Slots}
+use Rattle.patmos_instr.specs.Bundles.{PlainBundle}
 use Rattle.sp_tree.specs.Statements.{PlainFunction, no_function, PlainUnit}
 use Rattle.sp_shape.proofs.Whole.{once_whole, run_append, run_whole}
 use Rattle.sp_shape.specs.Memory.{Memory}
@@ -86,7 +86,7 @@ mask_keeps homes f = by (flag_of homes.flags f.mask)
     by None = rw (set_keeps homes.first f.mask MASK) refl
     by (Some p) = refl
 
-state_run : (homes : Homes) (from : Sources) (f : PlainFunction) (bs : List Slots) (t : Run)
+state_run : (homes : Homes) (from : Sources) (f : PlainFunction) (bs : List PlainBundle) (t : Run)
     → run from (all_done (mask_kept homes f ++ bs)) t
     ≡ run from (all_done bs) (run from (all_done (mask_kept homes f)) t)
 state_run homes from f bs t = ap (λ steps. run from steps t) (done_append (mask_kept homes f) bs)

@@ -2,7 +2,7 @@
 use Rattle.std.proofs.Common.{◌≡◌, ℕ, ◌^◌, ◌<◌, ◌≤◌, nat_lt, Bool, true, false, ◌&&◌, ◌||◌, if◌then◌else◌, List, refl, ap, ◌∙◌, arith, true≢false}
 use Rattle.std.specs.Prelude.{nat_le}
 use Rattle.std.proofs.lemmas.Bool.{and_parts, ltb-true}
-use Rattle.patmos_instr.specs.Bundles.{Slots}
+use Rattle.patmos_instr.specs.Bundles.{PlainBundle}
 use Rattle.patmos_instr.specs.declared.functions.CmpFunc.TheVariants as cmp
 use Rattle.patmos_instr.specs.declared.functions.ImmFunc.TheVariants as imm
 use Rattle.c_world.specs.Numbers.{flag}
@@ -19,7 +19,7 @@ use Rattle.sp_emit.proofs.ByConstants.{divides_unsigned, leaves_unsigned, divide
 use Rattle.sp_emit.proofs.Factors.{Exact, exact_parts}
 use Rattle.sp_emit.proofs.Leaving.{held_computed_leaves, held_compared_leaves, not_lt}
 
-pub held_is : (P : List Slots → Type 0) (op : SpBinary) (rd ra n : ℕ) → P (short_code op rd ra n)
+pub held_is : (P : List PlainBundle → Type 0) (op : SpBinary) (rd ra n : ℕ) → P (short_code op rd ra n)
     → P (factor_code op rd ra n) → P (held_code op rd ra n)
 held_is P op rd ra n short by_factor = by (is_short op n)
   where

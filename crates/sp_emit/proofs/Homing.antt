@@ -2,7 +2,7 @@
 use Rattle.std.proofs.Common.{◌≡◌, ℕ, zero, suc, Bool, true, false, ◌&&◌, if◌then◌else◌, is_none, Option, None, Some, List, [], ◌∷◌, ◌++◌, nat_lt, refl, sym, ◌∙◌, subst, arith, true≢false}
 use Rattle.std.specs.List.{list_all}
 use Rattle.std.proofs.lemmas.Bool.{and_parts, ltb-true}
-use Rattle.patmos_instr.specs.Bundles.{Slots}
+use Rattle.patmos_instr.specs.Bundles.{PlainBundle}
 use Rattle.patmos_instr.specs.declared.functions.StackFunc.TheVariants.{Sres, Sens, Sfree}
 use Rattle.patmos_instr.specs.declared.instructions.Instr.{Instr}
 use Rattle.patmos_instr.specs.declared.instructions.Op.{Op}
@@ -64,7 +64,7 @@ abbrev pub sets_none : Op → Bool
 sets_none (ToSpecial special ra) = false
 sets_none _ = true
 
-abbrev pub keeps_place : Slots → Bool
+abbrev pub keeps_place : PlainBundle → Bool
 keeps_place b = sets_none b.first.op && is_none b.second
 
 written_none : (st ss : ℕ) (regs : Registers) (on : Bool) (op : Op) → sets_none op ≡ true
@@ -78,7 +78,7 @@ second_none : (st ss : ℕ) (regs : Registers) (second : Option Instr) → is_no
 second_none st ss regs None none = refl
 second_none st ss regs (Some i) none = absurd (true≢false (sym none))
 
-after_back : (b : Slots) (m : Run) → keeps_place b ≡ true → SameBack m (behind b m)
+after_back : (b : PlainBundle) (m : Run) → keeps_place b ≡ true → SameBack m (behind b m)
 after_back b m keeps =
     let both = and_parts (sets_none b.first.op) (is_none b.second) keeps in
     let p = came m.regs.pending in
@@ -93,7 +93,7 @@ after_back b m keeps =
           ∙ offset_same w (offset_by p m.regs.sro) first ∙ offset_same p m.regs.sro (came_none m.regs.pending);
     }
 
-once_back : (from : Sources) (b : Slots) (m : Run) → keeps_place b ≡ true → SameBack m (once from b m)
+once_back : (from : Sources) (b : PlainBundle) (m : Run) → keeps_place b ≡ true → SameBack m (once from b m)
 once_back from b m keeps =
     let e = effected from (effect_of b m.regs) (behind b m) in
     let x = back_then (after_back b m keeps) (back_effected from (effect_of b m.regs) (behind b m)) in
@@ -102,7 +102,7 @@ once_back from b m keeps =
       offset = offset_same (came e.regs.pending) e.regs.sro (came_none e.regs.pending) ∙ x.offset;
     }
 
-pub done_back : (from : Sources) (bs : List Slots) (m : Run) → list_all keeps_place bs ≡ true
+pub done_back : (from : Sources) (bs : List PlainBundle) (m : Run) → list_all keeps_place bs ≡ true
     → SameBack m (run from (all_done bs) m)
 done_back from [] m keeps = record { base = refl; offset = refl }
 done_back from (b ∷ bs) m keeps =

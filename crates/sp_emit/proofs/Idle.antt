@@ -2,7 +2,7 @@
 use Rattle.std.proofs.Common.{◌≡◌, ℕ, ◌+◌, ◌-◌, arith, true, List, [], ◌∷◌, ◌++◌, refl}
 use Rattle.std.specs.Prelude.{nat_lt, ◌&&◌}
 use Rattle.std.proofs.lemmas.Bool.{and_parts, and_from}
-use Rattle.patmos_instr.specs.Bundles.{Slots}
+use Rattle.patmos_instr.specs.Bundles.{PlainBundle}
 use Rattle.patmos_instr.specs.declared.functions.CmpFunc.TheVariants as cmp
 use Rattle.patmos_instr.specs.declared.functions.ImmFunc.TheVariants as imm
 use Rattle.sp_tree.specs.Need.{need}
@@ -74,7 +74,7 @@ tail_idles homes counter =
     fetch_is (λ b. iteration_idles (b ∷ with_short always imm.Sub left left 1 ∷ keep_word homes counter ∷ last) ≡ true)
     homes counter kept (λ out. kept)
 
-tests_idle : (bs : List Slots) → AreTests bs → Idles (one (straight bs))
+tests_idle : (bs : List PlainBundle) → AreTests bs → Idles (one (straight bs))
 tests_idle bs tests = refl
 
 truths_idle : (homes : Homes) → TruthParts Idles homes (λ e. Unit {0})

@@ -1,7 +1,7 @@
 -- The instruction in which the code of an expression ends, and words of the frame that are set by it under a mask.
 use Rattle.std.proofs.Common.{◌≡◌, ℕ, ◌+◌, ◌<◌, Bool, true, false, if◌then◌else◌, nat_lt, Option, None, Some, [], ◌∷◌, ◌++◌, refl, sym, ◌∙◌, arith, true≢false}
 use Rattle.std.proofs.lemmas.Bool.{and_from, ltb-true}
-use Rattle.patmos_instr.specs.Bundles.{Slots}
+use Rattle.patmos_instr.specs.Bundles.{PlainBundle}
 use Rattle.patmos_instr.specs.declared.guards.Guard.{Guard}
 use Rattle.patmos_instr.specs.declared.functions.ImmFunc.{ImmFunc}
 use Rattle.patmos_instr.specs.declared.functions.ImmFunc.TheVariants as imm
@@ -160,7 +160,7 @@ write_is P homes mask (to_slot slot) e other guarded =
     slot_write_is P homes mask slot e other (λ op here gives. guarded slot op refl gives)
 
 -- what holds of each bundle
-pub guarded_each : (holds : Slots → Bool) (homes : Homes) (mask : ℕ) (e : PlainSp) (op : Op)
+pub guarded_each : (holds : PlainBundle → Bool) (homes : Homes) (mask : ℕ) (e : PlainSp) (op : Op)
     → parts_all holds (operands_code homes e FIRST) ≡ true → holds (seek_word homes mask) ≡ true
     → holds (match_word homes mask) ≡ true
     → holds (under (where_so (told_at homes mask)) op) ≡ true → parts_all holds (guarded_code homes mask e op) ≡ true

@@ -1,7 +1,7 @@
 -- The loops of expressions and statements make all their iterations, where those of the functions that are called do.
 use Rattle.std.proofs.Common.{◌≡◌, ℕ, ◌+◌, ◌-◌, ◌^◌, ◌<◌, ◌≤◌, ◌==◌, true, ◌&&◌, List, [], ◌∷◌, ◌++◌, Option, length, slice_index_or, nat_lt, ◌∙◌, subst, arith}
 use Rattle.std.proofs.lemmas.Bool.{and_parts, ltb-true}
-use Rattle.patmos_instr.specs.Bundles.{Slots}
+use Rattle.patmos_instr.specs.Bundles.{PlainBundle}
 use Rattle.sp_tree.specs.Formed.{callee_formed, args_formed, result_formed, stmt_formed, stmts_formed, stmt_levels, stmts_levels}
 use Rattle.sp_tree.specs.Need.{need}
 use Rattle.sp_tree.specs.Plain.{PlainSp, constant, frame_word, cell_word, array_word, before_one, between_two}
@@ -70,7 +70,7 @@ two_parts : (from : Sources) (f : ℕ → List Step) (Called : ℕ → Run → T
 two_parts from f Called back xs ys x y m whole = iterations_joined from f Called back xs ys m (x m whole)
     (y (run from (parts_trail f xs) m) (run_whole from (parts_trail f xs) m whole))
 
-bundles : (from : Sources) (f : ℕ → List Step) (Called : ℕ → Run → Type 0) (back : Back) (bs : List Slots)
+bundles : (from : Sources) (f : ℕ → List Step) (Called : ℕ → Run → Type 0) (back : Back) (bs : List PlainBundle)
     → Iteration from f Called back (one (straight bs))
 bundles from f Called back bs m whole = (tt, tt)
 

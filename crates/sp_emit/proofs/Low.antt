@@ -5,7 +5,7 @@ use Rattle.std.proofs.Common.{◌≡◌, ℕ, ◌+◌, ◌-◌, ◌<◌, ◌≤�
 use Rattle.std.specs.Prelude.{nat_le}
 use Rattle.std.specs.List.{list_all}
 use Rattle.std.proofs.lemmas.Bool.{and_parts, and_from, or_cases, or_right, le-leb, lt-ltb, leb-true, ltb-true, eqb-true}
-use Rattle.patmos_instr.specs.Bundles.{Slots}
+use Rattle.patmos_instr.specs.Bundles.{PlainBundle}
 use Rattle.patmos_instr.specs.declared.functions.CmpFunc.TheVariants as cmp
 use Rattle.patmos_instr.specs.declared.guards.Guard.{Guard}
 use Rattle.patmos_instr.specs.declared.instructions.Op.{Op}
@@ -44,7 +44,7 @@ use Rattle.sp_emit.specs.declared.stands.Homes.{Homes}
 abbrev pub Low : List ℕ → ℕ → ℕ → PlainParts → Type 0
 Low tops top count parts = parts_pass tops top count parts ≡ true
 
-abbrev pub AreLow : ℕ → ℕ → List Slots → Type 0
+abbrev pub AreLow : ℕ → ℕ → List PlainBundle → Type 0
 AreLow top count bs = list_all (passes top count) bs ≡ true
 
 pub low_joined : (tops : List ℕ) (top count : ℕ) (a b : PlainParts) → Low tops top count a → Low tops top count b
@@ -55,7 +55,7 @@ low_joined tops top count (part p a) b x y =
     and_from (part_passes tops top count p) (parts_pass tops top count (joined a b)) parts.0
     (low_joined tops top count a b parts.1 y)
 
-pub low_lone : (tops : List ℕ) (top count : ℕ) (bs : List Slots) → AreLow top count bs
+pub low_lone : (tops : List ℕ) (top count : ℕ) (bs : List PlainBundle) → AreLow top count bs
     → Low tops top count (one (straight bs))
 low_lone tops top count bs low = and_from (list_all (passes top count) bs) true low refl
 
@@ -84,7 +84,7 @@ calm_op_low rd homes top count some le (Store space width ra rs imm) calm = absu
 calm_op_low rd homes top count some le (Stack func n) calm = absurd (true≢false (sym calm))
 calm_op_low rd homes top count some le _ calm = refl
 
-calm_low : (rd homes top count : ℕ) → 1 ≤ top → homes ≤ top → (b : Slots) → is_calm rd homes b ≡ true
+calm_low : (rd homes top count : ℕ) → 1 ≤ top → homes ≤ top → (b : PlainBundle) → is_calm rd homes b ≡ true
     → passes top count b ≡ true
 calm_low rd homes top count some le b calm =
     let both = and_parts (is_calm_op rd homes b.first.op) (is_none b.second) calm in
@@ -151,7 +151,8 @@ args_low tops homes slots top count (e ∷ args) rd most few formed free le =
 
 -- ---- truths
 
-tests_low : (tops : List ℕ) (top count : ℕ) (bs : List Slots) → AreTests bs → Low tops top count (one (straight bs))
+tests_low : (tops : List ℕ) (top count : ℕ) (bs : List PlainBundle) → AreTests bs
+    → Low tops top count (one (straight bs))
 tests_low tops top count bs tests =
     low_lone tops top count bs (all_weaker is_test_bundle (passes top count) (λ b is. grind (arith, is)) bs tests)
 
@@ -411,7 +412,7 @@ op_more top higher count more le fewer (Stack Sens n) low = refl
 op_more top higher count more le fewer (Stack Sfree n) low = low
 op_more top higher count more le fewer _ low = refl
 
-bundle_more : (top higher count more : ℕ) → top ≤ higher → count ≤ more → (b : Slots) → passes top count b ≡ true
+bundle_more : (top higher count more : ℕ) → top ≤ higher → count ≤ more → (b : PlainBundle) → passes top count b ≡ true
     → passes higher more b ≡ true
 bundle_more top higher count more le fewer b low =
     let both = and_parts (is_low top count b.first.op) (is_none b.second) low in

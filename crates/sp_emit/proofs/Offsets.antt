@@ -3,7 +3,7 @@
 use Rattle.std.proofs.Common.{◌≡◌, ℕ, ◌<◌, Bool, true, false, if◌then◌else◌, refl, arith, nat_lt}
 use Rattle.std.specs.Prelude.{◌==◌}
 use Rattle.std.proofs.lemmas.Bool.{and_parts, ltb-true}
-use Rattle.patmos_instr.specs.Bundles.{Slots}
+use Rattle.patmos_instr.specs.Bundles.{PlainBundle}
 use Rattle.patmos_instr.specs.declared.functions.AluFunc.TheVariants as alu
 use Rattle.patmos_instr.specs.declared.functions.CmpFunc.TheVariants as cmp
 use Rattle.patmos_instr.specs.declared.functions.ImmFunc.TheVariants as imm
@@ -37,13 +37,13 @@ scaled_op_is P a rd ra here there =
     either P (has_offset a) (AluImm imm.Sl rd ra 2) (AluReg alu.Shadd2 rd ra SPARE) here there
 
 -- the bundles that compare an index and make an address
-pub record AddressAre (P : Slots → Type 0) (a : SpArray) (pd rd ra : ℕ) : Type 0 where
+pub record AddressAre (P : PlainBundle → Type 0) (a : SpArray) (pd rd ra : ℕ) : Type 0 where
   pub length : P (under always (length_op a.length))
   pub below : P (under always (below_op pd ra a.length))
   pub base : P (under always (base_op a))
   pub scaled : P (under always (scaled_op a rd ra))
 
-pub address_are : (P : Slots → Type 0) (a : SpArray) (pd rd ra : ℕ) → P idle → ((n : ℕ) → P (set_number SPARE n))
+pub address_are : (P : PlainBundle → Type 0) (a : SpArray) (pd rd ra : ℕ) → P idle → ((n : ℕ) → P (set_number SPARE n))
     → P (compare_short cmp.Ult pd ra a.length) → P (compare cmp.Ult pd ra SPARE)
     → P (with_short always imm.Sl rd ra 2) → P (compute always alu.Shadd2 rd ra SPARE) → AddressAre P a pd rd ra
 address_are P a pd rd ra nothing number short long shift sum = record {

@@ -4,7 +4,7 @@
 use Rattle.std.proofs.Common.{◌≡◌, ℕ, ◌+◌, ◌<◌, Bool, true, false, if◌then◌else◌, nat_lt, List, [], ◌∷◌, Option, None, Some, refl, sym, ap, ◌∙◌, subst, arith}
 use Rattle.std.specs.Prelude.{is_none}
 use Rattle.std.proofs.lemmas.Bool.{and_parts, ltb-true}
-use Rattle.patmos_instr.specs.Bundles.{Slots}
+use Rattle.patmos_instr.specs.Bundles.{PlainBundle}
 use Rattle.sp_tree.specs.Formed.{names_words, array_formed}
 use Rattle.sp_tree.specs.Need.{need}
 use Rattle.sp_tree.specs.Plain.{PlainSp, constant, frame_word, cell_word, array_word, before_one, between_two}
@@ -31,7 +31,7 @@ home_below homes (frame_word slot) is = word_below homes slot is
 home_below homes _ is = omega arith
 
 -- one of two, as a word of the frame stands in a predicate or not
-pub word_code_is : (P : List Slots → Type 0) (homes : Homes) (to slot : ℕ) → ((p : ℕ) → P (truth_of p to))
+pub word_code_is : (P : List PlainBundle → Type 0) (homes : Homes) (to slot : ℕ) → ((p : ℕ) → P (truth_of p to))
     → P (read_word homes.first to slot ∷ []) → P (word_code (flag_of homes.flags slot) homes.first to slot)
 word_code_is P homes to slot flagged plain = by (flag_of homes.flags slot)
   where

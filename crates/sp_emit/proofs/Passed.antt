@@ -2,7 +2,7 @@
 use Rattle.std.specs.Prelude.{min}
 use Rattle.std.proofs.Common.{◌≡◌, ℕ, zero, suc, ◌+◌, ◌-◌, ◌*◌, ◌<◌, ◌≤◌, ◌==◌, ◌⊎◌, inl, inr, Bool, true, false, if◌then◌else◌, Option, None, Some, List, [], ◌∷◌, ◌++◌, length, slice_index_or, refl, sym, ap, ◌∙◌, subst, arith}
 use Rattle.std.proofs.lemmas.Bool.{cases_lt, and_parts, lt-ltb, eqb-true, eqb-false}
-use Rattle.patmos_instr.specs.Bundles.{Slots}
+use Rattle.patmos_instr.specs.Bundles.{PlainBundle}
 use Rattle.patmos_instr.specs.declared.functions.StackFunc.TheVariants.{Sres, Sfree}
 use Rattle.sp_tree.specs.Formed.{slots_of, function_formed, functions_formed}
 use Rattle.sp_tree.specs.Statements.{PlainFunction, no_function}
@@ -62,10 +62,10 @@ state_low homes top count f mask within own out room =
     by (Some p) = refl
 
 -- the end of a function, before its frame is freed
-abbrev pub result_read : ℕ → PlainFunction → List Slots
+abbrev pub result_read : ℕ → PlainFunction → List PlainBundle
 result_read homes f = read_word homes RESULT f.result ∷ copy MASK OVERRUN ∷ []
 
-abbrev pub given_back : ℕ → PlainFunction → List Slots
+abbrev pub given_back : ℕ → PlainFunction → List PlainBundle
 given_back homes f = place_brought homes f ++ result_read homes f
 
 -- and then it is

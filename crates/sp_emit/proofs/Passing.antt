@@ -5,7 +5,7 @@ use Rattle.std.specs.Prelude.{nat_le}
 use Rattle.std.specs.List.{list_all}
 use Rattle.std.proofs.lemmas.Bool.{and_parts, and_from, or_cases, leb-true, lt-ltb, ltb-true, eqb-true}
 use Rattle.shared_order.specs.Words.{put}
-use Rattle.patmos_instr.specs.Bundles.{Slots}
+use Rattle.patmos_instr.specs.Bundles.{PlainBundle}
 use Rattle.patmos_instr.specs.declared.functions.StackFunc.TheVariants.{Sres, Sens, Sfree}
 use Rattle.patmos_instr.specs.declared.guards.Guard.{Guard}
 use Rattle.patmos_instr.specs.declared.instructions.Instr.{Instr}
@@ -54,7 +54,7 @@ is_low top count (Stack Sres n) = false
 is_low top count (Stack Sfree n) = false
 is_low top count _ = true
 
-abbrev pub passes : ℕ → ℕ → Slots → Bool
+abbrev pub passes : ℕ → ℕ → PlainBundle → Bool
 passes top count b = is_low top count b.first.op && is_none b.second
 
 -- nothing is pending, and the stack after so many words and the registers from one on are as they were
@@ -86,7 +86,7 @@ low_leaves top count r from few (Load space load.Word rd ra imm) low = outside_a
 low_leaves top count r from few (Load space _ rd ra imm) low = absurd (true≢false (sym low))
 low_leaves top count r from few _ low = refl
 
-high_once : (from : Sources) (top count : ℕ) (b : Slots) (m : Run) → IsWhole m → passes top count b ≡ true
+high_once : (from : Sources) (top count : ℕ) (b : PlainBundle) (m : Run) → IsWhole m → passes top count b ≡ true
     → KeepsFrom top m (once from b m)
 high_once from top count b m whole low = λ r at lt.
     let both = and_parts (is_low top count b.first.op) (is_none b.second) low in
@@ -136,7 +136,8 @@ passes_effect from top count true (Stack Sres n) regs m few zero_is low = absurd
 passes_effect from top count true (Stack Sfree n) regs m few zero_is low = absurd (true≢false (sym low))
 passes_effect from top count true _ regs m few zero_is low = stays count m _ refl refl
 
-pub passes_once : (from : Sources) (top count : ℕ) (b : Slots) (m : Run) → count ≤ 128 → IsWhole m → passes top count b
+pub passes_once : (from : Sources) (top count : ℕ) (b : PlainBundle) (m : Run) → count ≤ 128 → IsWhole m
+    → passes top count b
     ≡ true → Passes top count m (once from b m)
 passes_once from top count b m few whole low =
     let own = (and_parts (is_low top count b.first.op) (is_none b.second) low).0 in
@@ -182,7 +183,7 @@ passes_more higher le a = record {
   };
 }
 
-pub passes_done : (from : Sources) (top count : ℕ) (bs : List Slots) (m : Run) → count ≤ 128 → IsWhole m
+pub passes_done : (from : Sources) (top count : ℕ) (bs : List PlainBundle) (m : Run) → count ≤ 128 → IsWhole m
     → list_all (passes top count) bs ≡ true → Passes top count m (run from (all_done bs) m)
 passes_done from top count [] m few whole low = passes_all top count m whole
 passes_done from top count (b ∷ bs) m few whole low =

@@ -3,7 +3,7 @@ use Rattle.std.proofs.Common.{◌≡◌, ℕ, ◌+◌, ◌*◌, ◌/◌, ◌%◌
 use Rattle.std.specs.List.{list_all}
 use Rattle.std.proofs.lemmas.Bool.{and_parts, ltb-true, eqb-true}
 use Rattle.std.proofs.lemmas.List.{append_assoc}
-use Rattle.patmos_instr.specs.Bundles.{Slots}
+use Rattle.patmos_instr.specs.Bundles.{PlainBundle}
 use Rattle.patmos_instr.specs.declared.instructions.Op.{Op}
 use Rattle.patmos_instr.specs.declared.instructions.Op.TheVariants.{AluImm, AluReg, AluLong, Mul, Cmp, CmpImm, Comb, ToSpecial, FromSpecial, Stack, Load, Store, Branch, Call, BranchFill, Return}
 use Rattle.patmos_instr.specs.declared.memories.Mem.TheVariants as mem
@@ -62,7 +62,7 @@ is_inside_op frame (Store mem.S store.Byte ra rs imm) = false
 is_inside_op frame (Stack func n) = false
 is_inside_op frame _ = true
 
-abbrev pub is_inside : ℕ → Slots → Bool
+abbrev pub is_inside : ℕ → PlainBundle → Bool
 is_inside frame b = is_inside_op frame b.first.op
 
 -- a frame is taken: it lies in the stack's region, and the stack cache holds it
@@ -151,7 +151,7 @@ framed_as frame m t framed whole same =
       held = subst (λ p. p.st + frame ≤ p.ss) (sym same) framed.held;
     }
 
-pub inside_once : (from : Sources) (frame : ℕ) (b : Slots) (m : Run) → Framed frame m → is_inside frame b ≡ true
+pub inside_once : (from : Sources) (frame : ℕ) (b : PlainBundle) (m : Run) → Framed frame m → is_inside frame b ≡ true
     → Stays frame m (once from b m)
 inside_once from frame b m framed inside =
     let on = holds m.regs b.first.guard in
@@ -164,7 +164,7 @@ inside_once from frame b m framed inside =
       st = ap (λ p. p.st) same;
     }
 
-pub inside_done : (from : Sources) (frame : ℕ) (bs : List Slots) (m : Run) → Framed frame m
+pub inside_done : (from : Sources) (frame : ℕ) (bs : List PlainBundle) (m : Run) → Framed frame m
     → list_all (is_inside frame) bs ≡ true → Stays frame m (run from (all_done bs) m)
 inside_done from frame [] m framed inside = stays_all frame m framed
 inside_done from frame (b ∷ bs) m framed inside =

@@ -2,7 +2,7 @@
 use Rattle.std.proofs.Common.{ℕ, ◌≡◌, true≢false, Bool, true, false, if◌then◌else◌, List, [], ◌∷◌, ◌++◌, sym, refl}
 use Rattle.std.specs.List.{list_all}
 use Rattle.std.proofs.lemmas.Bool.{and_parts}
-use Rattle.patmos_instr.specs.Bundles.{Slots}
+use Rattle.patmos_instr.specs.Bundles.{PlainBundle}
 use Rattle.patmos_instr.specs.declared.instructions.Op.{Op}
 use Rattle.patmos_instr.specs.declared.instructions.Op.TheVariants.{Store}
 use Rattle.patmos_instr.specs.declared.memories.Mem.TheVariants as mem
@@ -30,7 +30,7 @@ abbrev pub is_portless_op : Op → Bool
 is_portless_op (Store mem.L width ra rs imm) = false
 is_portless_op _ = true
 
-abbrev pub is_portless : Slots → Bool
+abbrev pub is_portless : PlainBundle → Bool
 is_portless b = is_portless_op b.first.op
 
 portless_well : (on : Bool) (op : Op) (regs : Registers) (k : Memory) → is_portless_op op ≡ true
@@ -40,7 +40,7 @@ portless_well true (Store mem.L width ra rs imm) regs k e = absurd (true≢false
 portless_well true (Store _ width ra rs imm) regs k e = tt
 portless_well true _ regs k e = tt
 
-pub portless_start : (from : Sources) (bs : List Slots) (m : Run) → list_all is_portless bs ≡ true
+pub portless_start : (from : Sources) (bs : List PlainBundle) (m : Run) → list_all is_portless bs ≡ true
     → AllStart from (all_done bs) m
 portless_start from [] m e = tt
 portless_start from (b ∷ bs) m e =

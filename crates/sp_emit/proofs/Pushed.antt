@@ -1,6 +1,6 @@
 -- Parts that are pushed after others.
 use Rattle.std.proofs.Common.{◌≡◌, ℕ, ◌-◌, Option, None, Some, List, [], ◌∷◌, ◌++◌, ap, sym, ◌∙◌}
-use Rattle.patmos_instr.specs.Bundles.{Slots}
+use Rattle.patmos_instr.specs.Bundles.{PlainBundle}
 use Rattle.sp_shape.proofs.Joins.{shown, joined-nothing, joined-assoc}
 use Rattle.sp_shape.specs.Parts.{PlainParts, no_part, part, straight, repeats, one, joined}
 use Rattle.sp_shape.specs.Shown.{plain_part, parts_of}
@@ -18,7 +18,7 @@ use Rattle.sp_emit.specs.declared.registers.TheConstants.{FIRST}
 use Rattle.sp_tree.specs.declared.statements.SpFunction.{SpFunction}
 use Rattle.sp_emit.specs.declared.stands.Homes.{Homes}
 
-pub straight_push : (xs : List Part) (bundles : List Slots) → parts_of (xs ++ Straight bundles ∷ [])
+pub straight_push : (xs : List Part) (bundles : List PlainBundle) → parts_of (xs ++ Straight bundles ∷ [])
     ≡ joined (parts_of xs) (one (straight bundles))
 unfolding plain_part
 straight_push xs bundles = shown xs (Straight bundles ∷ [])
@@ -36,7 +36,7 @@ three_pushed old first second third a b c one two three =
     three ∙ ap (λ p. joined p c) (two_pushed old first second a b one two) ∙ joined-assoc old (joined a b) c
     ∙ ap (joined old) (joined-assoc a b c)
 
-pub around_pushed : (old first second third : PlainParts) (before behind : List Slots) → first
+pub around_pushed : (old first second third : PlainParts) (before behind : List PlainBundle) → first
     ≡ joined old (one (straight (before ++ highest_bit ∷ []))) → second ≡ joined first (one digits)
     → third ≡ joined second (one (straight behind)) → third ≡ joined old (around before behind)
 around_pushed old first second third before behind one two three =
@@ -105,6 +105,7 @@ iterations_pushed homes old first second iteration frame counter count body a is
     (one (repeats count (stmts_code homes frame (counter - 1) body) (iterations_tail homes.first counter))) a
     (b ∙ ap (λ t. joined first (one (repeats count t (iterations_tail homes.first counter)))) is)
 
-pub straight_as : (old new : PlainParts) (xs ys : List Slots) → new ≡ joined old (one (straight xs)) → xs ≡ ys → new
+pub straight_as : (old new : PlainParts) (xs ys : List PlainBundle) → new ≡ joined old (one (straight xs))
+    → xs ≡ ys → new
     ≡ joined old (one (straight ys))
 straight_as old new xs ys is same = is ∙ ap (λ l. joined old (one (straight l))) same

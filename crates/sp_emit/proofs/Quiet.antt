@@ -4,7 +4,7 @@ use Rattle.std.proofs.Common.{◌≡◌, ℕ, ◌+◌, ◌<◌, ◌≤◌, ◌==
 use Rattle.std.specs.Prelude.{nat_lt, ◌&&◌, is_none}
 use Rattle.std.specs.List.{list_all}
 use Rattle.std.proofs.lemmas.Bool.{and_parts, and_from, ltb-true}
-use Rattle.patmos_instr.specs.Bundles.{Slots}
+use Rattle.patmos_instr.specs.Bundles.{PlainBundle}
 use Rattle.patmos_instr.specs.declared.guards.Guard.{Guard}
 use Rattle.patmos_instr.specs.declared.instructions.Op.{Op}
 use Rattle.patmos_instr.specs.declared.instructions.Op.TheVariants.{Cmp, CmpImm, Comb, ToSpecial, Stack, Load, Store}
@@ -35,19 +35,20 @@ use Rattle.sp_emit.specs.declared.stands.Homes.{Homes}
 
 -- ---- each bundle
 
-pub each_joined : (holds : Slots → Bool) (a b : PlainParts) → parts_all holds a ≡ true → parts_all holds b ≡ true
+pub each_joined : (holds : PlainBundle → Bool) (a b : PlainParts) → parts_all holds a ≡ true → parts_all holds b ≡ true
     → parts_all holds (joined a b) ≡ true
 each_joined holds no_part b x y = y
 each_joined holds (part p a) b x y =
     let parts = and_parts (part_all holds p) (parts_all holds a) x in
     and_from (part_all holds p) (parts_all holds (joined a b)) parts.0 (each_joined holds a b parts.1 y)
 
-pub each_lone : (holds : Slots → Bool) (bs : List Slots) → list_all holds bs ≡ true
+pub each_lone : (holds : PlainBundle → Bool) (bs : List PlainBundle) → list_all holds bs ≡ true
     → parts_all holds (one (straight bs)) ≡ true
 each_lone holds bs x = and_from (list_all holds bs) true x refl
 
 mutual
-  part_so : (p q : Slots → Bool) → ((b : Slots) → p b ≡ true → q b ≡ true) → (a : PlainPart) → part_all p a ≡ true
+  part_so : (p q : PlainBundle → Bool) → ((b : PlainBundle) → p b ≡ true → q b ≡ true) → (a : PlainPart)
+      → part_all p a ≡ true
       → part_all q a ≡ true
   part_so p q so (straight bs) x = all_weaker p q so bs x
   part_so p q so (repeats count body tail) x =
@@ -56,7 +57,8 @@ mutual
   part_so p q so (calls_to k tail) x = all_weaker p q so tail x
   part_so p q so (leaves tail) x = all_weaker p q so tail x
 
-  pub each_so : (p q : Slots → Bool) → ((b : Slots) → p b ≡ true → q b ≡ true) → (a : PlainParts) → parts_all p a ≡ true
+  pub each_so : (p q : PlainBundle → Bool) → ((b : PlainBundle) → p b ≡ true → q b ≡ true) → (a : PlainParts)
+      → parts_all p a ≡ true
       → parts_all q a ≡ true
   each_so p q so no_part x = refl
   each_so p q so (part a rest) x =
@@ -76,7 +78,7 @@ is_quiet_op g (Stack func count) = false
 is_quiet_op g (ToSpecial special ra) = false
 is_quiet_op g _ = true
 
-abbrev pub is_quiet : Slots → Bool
+abbrev pub is_quiet : PlainBundle → Bool
 is_quiet b = is_quiet_op b.first.guard b.first.op && is_none b.second
 
 pub low_spared : (pd q : ℕ) → pd < FLAGS → FLAGS ≤ q → not (pd == q) ≡ true
@@ -96,7 +98,7 @@ quiet_spares q from g _ quiet = refl
 abbrev Quiet : PlainParts → Type 0
 Quiet parts = parts_all is_quiet parts ≡ true
 
-abbrev AreQuiet : List Slots → Type 0
+abbrev AreQuiet : List PlainBundle → Type 0
 AreQuiet bs = list_all is_quiet bs ≡ true
 
 unary_quiet : (op : SpUnary) (rd ra : ℕ) → AreQuiet (unary_code op rd ra)

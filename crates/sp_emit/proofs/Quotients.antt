@@ -4,7 +4,7 @@ use Rattle.std.proofs.Common.{◌≡◌, ℕ, zero, suc, ◌+◌, ◌-◌, ◌*�
 use Rattle.std.specs.Prelude.{nat_le}
 use Rattle.std.proofs.Math.Arith.{digits_div, digits_mod}
 use Rattle.std.proofs.lemmas.Bool.{cases_lt, leb-true, leb-false, eqb-true, eqb-false}
-use Rattle.patmos_instr.specs.Bundles.{Slots}
+use Rattle.patmos_instr.specs.Bundles.{PlainBundle}
 use Rattle.patmos_instr.specs.declared.functions.AluFunc.TheVariants as alu
 use Rattle.patmos_instr.specs.declared.functions.CmpFunc.TheVariants as cmp
 use Rattle.patmos_instr.specs.declared.functions.ImmFunc.TheVariants as imm
@@ -395,7 +395,7 @@ large_rest_is a b r word_a word_b word_r is_r = by (has_bit b 31) refl (nat_le b
 
 -- ---- the whole
 
-run_around : (from : Sources) (f : ℕ → List Step) (before behind : List Slots) (m : Run)
+run_around : (from : Sources) (f : ℕ → List Step) (before behind : List PlainBundle) (m : Run)
     → run from (parts_trail f (around before behind)) m
     ≡ run from (all_done behind) (run from (copies 8 (all_done digit_tail))
     (once from highest_bit (run from (all_done before) m)))

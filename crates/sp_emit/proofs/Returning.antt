@@ -1,6 +1,6 @@
 -- What a function's code leaves after its body: its result, the flag, and the stack without its frame.
 use Rattle.std.proofs.Common.{◌≡◌, ℕ, zero, suc, ◌+◌, ◌%◌, ◌^◌, ◌<◌, Bool, true, false, if◌then◌else◌, List, [], ◌∷◌, ◌++◌, refl, sym, ap, ◌∙◌, subst, arith}
-use Rattle.patmos_instr.specs.Bundles.{Slots}
+use Rattle.patmos_instr.specs.Bundles.{PlainBundle}
 use Rattle.patmos_instr.specs.declared.functions.StackFunc.TheVariants.{Sfree}
 use Rattle.patmos_instr.specs.declared.instructions.Op.TheVariants.{ToSpecial, Return}
 use Rattle.patmos_instr.specs.declared.specials.WritableSpecial.{WritableSpecial}
@@ -37,7 +37,7 @@ pub record Ends (homes : ℕ) (w : World) (m t : Run) : Type 0 where
   pub st : t.st ≡ m.st
   pub high : KeepsFrom homes m t
 
-ends_calm : {rd : ℕ} (homes : ℕ) (w : World) (m n : Run) (b : Slots) → Ends homes w m n
+ends_calm : {rd : ℕ} (homes : ℕ) (w : World) (m n : Run) (b : PlainBundle) → Ends homes w m n
     → Keeps rd homes n (once by_words b n) → Ends homes w m (once by_words b n)
 ends_calm homes w m n b x k = record {
   carries = record {
@@ -112,7 +112,7 @@ flag_copied : (b : Bool) → (flag b + 0) % 2 ^ 32 ≡ flag b
 flag_copied true = refl
 flag_copied false = refl
 
-abbrev given_of : ℕ → ℕ → ℕ → List Slots
+abbrev given_of : ℕ → ℕ → ℕ → List PlainBundle
 given_of homes frame slot = read_word homes RESULT slot ∷ copy MASK OVERRUN ∷ words_freed frame
 
 -- words of the stack are freed
@@ -174,7 +174,7 @@ gives_value homes w frame slot v m n b within few value word =
     }
 
 -- the place to which the function returns is brought back before, where it calls others
-abbrev place_of : ℕ → Bool → List Slots
+abbrev place_of : ℕ → Bool → List PlainBundle
 place_of base calls = if calls then load_slot SPARE base ∷ to_special writable.Srb SPARE ∷ load_slot SPARE (base + 1)
     ∷ to_special writable.Sro SPARE ∷ [] else []
 

@@ -3,7 +3,7 @@ use Rattle.std.proofs.Common.{◌≡◌, ℕ, ◌+◌, Bool, true, false, true�
 use Rattle.std.specs.Prelude.{is_some}
 use Rattle.std.specs.List.{list_all}
 use Rattle.std.proofs.lemmas.Bool.{and_parts, not-true, or_cases}
-use Rattle.patmos_instr.specs.Bundles.{Slots}
+use Rattle.patmos_instr.specs.Bundles.{PlainBundle}
 use Rattle.patmos_instr.specs.declared.guards.Guard.{Guard}
 use Rattle.patmos_instr.specs.declared.functions.CmpFunc.{CmpFunc}
 use Rattle.patmos_instr.specs.declared.instructions.Instr.{Instr}
@@ -42,7 +42,7 @@ use Rattle.sp_emit.proofs.WordPlaces.{read_is}
 -- ---- bundles
 
 -- a bundle that does not write it
-abbrev spares : Slots → Bool
+abbrev spares : PlainBundle → Bool
 spares = leaves (predicate SECOND)
 
 -- ---- parts
@@ -50,7 +50,7 @@ spares = leaves (predicate SECOND)
 pub record Spares (ps : PlainParts) : Type 0 where
   pub kept : (f : ℕ → List Step) (m : Run) → IsWhole m → so SECOND (run by_words (parts_trail f ps) m) ≡ so SECOND m
 
-lone : {bs : List Slots} → list_all spares bs ≡ true → Spares (one (straight bs))
+lone : {bs : List PlainBundle} → list_all spares bs ≡ true → Spares (one (straight bs))
 lone {bs} all = record {
   kept = λ f m whole. ap (so SECOND) (run_lone by_words f bs m)
       ∙ left_run by_words (predicate SECOND) bs m (omega arith) whole all;

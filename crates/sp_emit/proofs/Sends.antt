@@ -3,7 +3,7 @@ use Rattle.std.proofs.Common.{◌≡◌, ℕ, ◌+◌, ◌-◌, ◌*◌, ◌/◌
 use Rattle.std.specs.Prelude.{nat_le}
 use Rattle.std.proofs.lemmas.Bool.{cases_lt, le-leb, lt-leb, lt-ltb, le-ltb}
 use Rattle.shared_order.specs.Words.{put}
-use Rattle.patmos_instr.specs.Bundles.{Slots}
+use Rattle.patmos_instr.specs.Bundles.{PlainBundle}
 use Rattle.patmos_instr.specs.declared.instructions.Op.TheVariants.{Store}
 use Rattle.patmos_instr.specs.declared.memories.StoreWidth.TheVariants as store
 use Rattle.local_store.specs.Map.{cell_at}
@@ -254,7 +254,7 @@ has_started core source target count w m x = record {
 }
 
 -- three stores, made where the predicate is true
-pub start_stores : List Slots
+pub start_stores : List PlainBundle
 start_stores = store_to (where_so TEST) mem.L SPARE FIRST 0 ∷ store_to (where_so TEST) mem.L SPARE (FIRST + 1) 1
     ∷ store_to (where_so TEST) mem.L SPARE (FIRST + 2) 2 ∷ []
 

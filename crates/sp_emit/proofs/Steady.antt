@@ -4,7 +4,7 @@ use Rattle.std.proofs.Common.{◌≡◌, ℕ, ◌+◌, ◌-◌, true, false, Lis
 use Rattle.std.specs.Prelude.{Bool, ◌&&◌, is_none}
 use Rattle.std.specs.List.{list_all}
 use Rattle.std.proofs.lemmas.Bool.{and_parts, and_from}
-use Rattle.patmos_instr.specs.Bundles.{Slots}
+use Rattle.patmos_instr.specs.Bundles.{PlainBundle}
 use Rattle.patmos_instr.specs.declared.functions.StackFunc.TheVariants.{Sres}
 use Rattle.patmos_instr.specs.declared.instructions.Op.{Op}
 use Rattle.patmos_instr.specs.declared.instructions.Op.TheVariants.{Stack}
@@ -44,13 +44,13 @@ takes_none _ = true
 
 -- such a bundle is one instruction, which sets no special register, takes no words of the stack, and does not set a
 -- predicate, by its number
-abbrev pub is_firm : ℕ → Slots → Bool
+abbrev pub is_firm : ℕ → PlainBundle → Bool
 is_firm q b = is_steady b && (keeps_place b && (takes_none b.first.op && leaves_op (predicate q) b.first.op))
 
 abbrev Firm : ℕ → PlainParts → Type 0
 Firm q parts = parts_all (is_firm q) parts ≡ true
 
-abbrev AreFirm : ℕ → List Slots → Type 0
+abbrev AreFirm : ℕ → List PlainBundle → Type 0
 AreFirm q bs = list_all (is_firm q) bs ≡ true
 
 -- where the predicate is one of the four
@@ -69,7 +69,7 @@ module _ (q : ℕ) (from : FLAGS ≤ q) where
 
   -- ---- expressions
 
-  firm_quiet : (b : Slots) → is_quiet b ≡ true → is_firm q b ≡ true
+  firm_quiet : (b : PlainBundle) → is_quiet b ≡ true → is_firm q b ≡ true
   firm_quiet b quiet =
       let both = and_parts (is_quiet_op b.first.guard b.first.op) (is_none b.second) quiet in
       let spared = quiet_spares q from b.first.guard b.first.op both.0 in
@@ -83,7 +83,7 @@ module _ (q : ℕ) (from : FLAGS ≤ q) where
 
   -- ---- statements
 
-  tests_firm : (bs : List Slots) → AreTests bs → Firm q (one (straight bs))
+  tests_firm : (bs : List PlainBundle) → AreTests bs → Firm q (one (straight bs))
   tests_firm bs tests = each_lone (is_firm q) bs (all_weaker is_test_bundle (is_firm q)
       (λ b is. let quiet : is_quiet b ≡ true = grind (arith, is) in firm_quiet b quiet) bs tests)
 
@@ -219,11 +219,11 @@ body_firm homes f = stmts_firm 8 (omega arith) homes (λ slot p is. let r = (fla
     ap not (ne_eqb p 8 (λ same. absurd (omega (arith, same, r))))) (frame_words homes.first f) (first_counter f)
     (begun_body homes.flags f)
 
-pub place_firm : (q : ℕ) (b : Slots) → is_firm q b ≡ true → keeps_place b ≡ true
+pub place_firm : (q : ℕ) (b : PlainBundle) → is_firm q b ≡ true → keeps_place b ≡ true
 place_firm q b firm = (and_parts (keeps_place b) (takes_none b.first.op && leaves_op (predicate q) b.first.op)
     (and_parts (is_steady b) (keeps_place b && (takes_none b.first.op && leaves_op (predicate q) b.first.op)) firm).1).0
 
-pub takes_firm : (most q : ℕ) (b : Slots) → is_firm q b ≡ true → takes_at_most most b ≡ true
+pub takes_firm : (most q : ℕ) (b : PlainBundle) → is_firm q b ≡ true → takes_at_most most b ≡ true
 takes_firm most q b firm = none b.first.op (and_parts (takes_none b.first.op) (leaves_op (predicate q) b.first.op)
     (and_parts (keeps_place b) (takes_none b.first.op && leaves_op (predicate q) b.first.op)
     (and_parts (is_steady b) (keeps_place b && (takes_none b.first.op && leaves_op (predicate q) b.first.op))
@@ -234,7 +234,7 @@ takes_firm most q b firm = none b.first.op (and_parts (takes_none b.first.op) (l
 
 -- ---- functions
 
-steady_firm : (q : ℕ) (b : Slots) → is_firm q b ≡ true → is_steady b ≡ true
+steady_firm : (q : ℕ) (b : PlainBundle) → is_firm q b ≡ true → is_steady b ≡ true
 steady_firm q b firm =
     (and_parts (is_steady b) (keeps_place b && (takes_none b.first.op && leaves_op (predicate q) b.first.op)) firm).0
 
@@ -253,7 +253,7 @@ function_steady homes f =
 
 -- ---- predicates
 
-firm_spares : (q : ℕ) (b : Slots) → is_firm q b ≡ true → leaves (predicate q) b ≡ true
+firm_spares : (q : ℕ) (b : PlainBundle) → is_firm q b ≡ true → leaves (predicate q) b ≡ true
 firm_spares q b firm =
     let a = (and_parts (is_steady b) (keeps_place b && (takes_none b.first.op && leaves_op (predicate q) b.first.op))
     firm).1 in

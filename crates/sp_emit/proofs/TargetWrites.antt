@@ -2,7 +2,7 @@
 use Rattle.std.proofs.Common.{◌≡◌, ℕ, ◌+◌, ◌%◌, ◌^◌, ◌<◌, ◌≤◌, ◌==◌, ◌⊎◌, inl, inr, Bool, true, false, ◌&&◌, if◌then◌else◌, List, [], ◌∷◌, refl, sym, ap, ◌∙◌, subst, arith, nat_lt}
 use Rattle.std.specs.Prelude.{nat_le}
 use Rattle.std.proofs.lemmas.Bool.{and_parts, leb-true, ltb-true}
-use Rattle.patmos_instr.specs.Bundles.{Slots}
+use Rattle.patmos_instr.specs.Bundles.{PlainBundle}
 use Rattle.patmos_instr.specs.declared.functions.PredFunc.TheVariants as comb
 use Rattle.patmos_instr.specs.declared.memories.Mem.TheVariants as mem
 use Rattle.patmos_sem.specs.Effects.{address_of as address_by}
@@ -157,7 +157,7 @@ same_element true r first length index v s = by (nat_lt index length)
     by false = refl
 
 -- the bundles after the test of the mask: the test of the index joins it, and the address is made
-unfoldable pub element_address_made : List Slots → ℕ → SpArray → List Slots
+unfoldable pub element_address_made : List PlainBundle → ℕ → SpArray → List PlainBundle
 element_address_made rest told a =
     under always (length_op a.length)
     ∷ under always (below_op SECOND (FIRST + 1) a.length)

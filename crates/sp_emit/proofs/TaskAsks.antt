@@ -3,7 +3,7 @@ use Rattle.std.proofs.Common.{◌≡◌, ℕ, zero, suc, ◌+◌, ◌-◌, ◌<�
 use Rattle.std.specs.Prelude.{nat_le}
 use Rattle.std.specs.List.{All, list_all}
 use Rattle.std.proofs.lemmas.Bool.{cases_lt, and_parts, ltb-true, eqb-true, eqb-false}
-use Rattle.patmos_instr.specs.Bundles.{Slots}
+use Rattle.patmos_instr.specs.Bundles.{PlainBundle}
 use Rattle.patmos_instr.specs.declared.guards.Guard.{Guard}
 use Rattle.patmos_instr.specs.declared.instructions.Op.{Op}
 use Rattle.sp_tree.proofs.Forms.{earlier_one, parts_of_function}
@@ -57,7 +57,7 @@ args_ask homes Named f slots (e ∷ args) rd most some few formed named =
     (named_right Named (expr_uses e) (args_uses args) named))
 
 -- bundles that reach the stack alone
-near_lone : (Named : Use → Type 0) (f : ℕ → List Step) (bs : List Slots) → list_all is_near bs ≡ true
+near_lone : (Named : Use → Type 0) (f : ℕ → List Step) (bs : List PlainBundle) → list_all is_near bs ≡ true
     → AsksOnly Named (parts_trail f (one (straight bs)))
 near_lone Named f bs near = asks_lone f bs (near_asks Named bs near)
 

@@ -3,7 +3,7 @@ use Rattle.std.proofs.Common.{◌≡◌, ℕ, ◌+◌, ◌<◌, Bool, true, fals
 use Rattle.std.proofs.lemmas.Bool.{and_parts}
 use Rattle.std.specs.Prelude.{is_none, is_some}
 use Rattle.std.specs.List.{list_all}
-use Rattle.patmos_instr.specs.Bundles.{Slots}
+use Rattle.patmos_instr.specs.Bundles.{PlainBundle}
 use Rattle.patmos_instr.specs.declared.functions.CmpFunc.{CmpFunc}
 use Rattle.patmos_instr.specs.declared.functions.PredFunc.{PredFunc}
 use Rattle.patmos_instr.specs.declared.instructions.Op.{Op}
@@ -43,10 +43,10 @@ is_test_op (CmpImm func pd ra n) = is_passing pd
 is_test_op (Comb func pd a b) = is_passing pd
 is_test_op _ = false
 
-abbrev pub is_test_bundle : Slots → Bool
+abbrev pub is_test_bundle : PlainBundle → Bool
 is_test_bundle b = is_test_op b.first.op && is_none b.second
 
-abbrev pub AreTests : List Slots → Type 0
+abbrev pub AreTests : List PlainBundle → Type 0
 AreTests bs = list_all is_test_bundle bs ≡ true
 
 both_tests : (o : Option PredFunc) (ra rb : ℕ) → AreTests (by_both o ra rb)
@@ -121,7 +121,7 @@ pub record TruthParts (P : PlainParts → Type 0) (homes : Homes) (Holds : Plain
   pub first : (op : SpBinary) (a b : PlainSp) → Holds (between_two op a b) → Holds a
   pub second : (op : SpBinary) (a b : PlainSp) → Holds (between_two op a b) → Holds b
   pub operands : (e : PlainSp) → Holds e → P (operands_code homes e FIRST)
-  pub tests : (bs : List Slots) → AreTests bs → P (one (straight bs))
+  pub tests : (bs : List PlainBundle) → AreTests bs → P (one (straight bs))
   pub bits : (slot : ℕ) → Holds (frame_word slot) → P (one (straight (bit_sought homes.first slot)))
 
 tested_is : {P : PlainParts → Type 0} {homes : Homes} {Holds : PlainSp → Type 0} → TruthParts P homes Holds
@@ -191,7 +191,7 @@ before_is {P} {homes} x (between_two op a b) h =
 before_is x other h = tested_is x other h
 
 -- the bundle that sets the predicate
-set_is : (P : Slots → Type 0) (flags : Flags) (to : ℕ) (e : PlainSp) → ((func : PredFunc) (a b : ℕ)
+set_is : (P : PlainBundle → Type 0) (flags : Flags) (to : ℕ) (e : PlainSp) → ((func : PredFunc) (a b : ℕ)
     → P (combine func to a b)) → P (flag_set flags to e)
 set_is P flags to (constant n) each = each comb.Pxor 0 0
 set_is P flags to (frame_word slot) each = each comb.Por TEST TEST

@@ -2,7 +2,7 @@
 use Rattle.std.proofs.Common.{◌≡◌, ℕ, ◌<◌, ◌==◌, Bool, true, false, not, ◌&&◌, is_none, Option, None, Some, List, [], ◌∷◌, refl, sym, ◌∙◌, subst, true≢false, ap}
 use Rattle.std.specs.List.{list_all}
 use Rattle.std.proofs.lemmas.Bool.{and_parts, not-true, eqb-false}
-use Rattle.patmos_instr.specs.Bundles.{Slots}
+use Rattle.patmos_instr.specs.Bundles.{PlainBundle}
 use Rattle.patmos_instr.specs.declared.guards.Guard.{Guard}
 use Rattle.patmos_instr.specs.declared.instructions.Instr.{Instr}
 use Rattle.patmos_instr.specs.declared.instructions.Op.{Op}
@@ -65,7 +65,7 @@ leaves_op x (Comb func pd a b) = no_predicate x pd
 leaves_op x (ToSpecial special ra) = no_special x special
 leaves_op x _ = true
 
-abbrev pub leaves : Operand → Slots → Bool
+abbrev pub leaves : Operand → PlainBundle → Bool
 leaves x b = leaves_op x b.first.op && is_none b.second
 
 -- ---- it holds the same after such bundles
@@ -145,7 +145,7 @@ left_on from x g (ToSpecial s ra) m there whole left on = subst (Same x m)
 left_on from x g other m there whole left on =
     by_registers x m (once from (under g other) m) (regs_stay from g other m whole on refl refl refl)
 
-pub left_once : (from : Sources) (x : Operand) (b : Slots) (m : Run) → IsThere x → IsWhole m → leaves x b ≡ true
+pub left_once : (from : Sources) (x : Operand) (b : PlainBundle) (m : Run) → IsThere x → IsWhole m → leaves x b ≡ true
     → Same x m (once from b m)
 left_once from x b m there whole left =
     let both = and_parts (leaves_op x b.first.op) (is_none b.second) left in
@@ -161,7 +161,7 @@ left_once from x b m there whole left =
     by None none h = h
     by (Some i) none h = absurd (true≢false (sym none))
 
-pub left_run : (from : Sources) (x : Operand) (bs : List Slots) (m : Run) → IsThere x → IsWhole m
+pub left_run : (from : Sources) (x : Operand) (bs : List PlainBundle) (m : Run) → IsThere x → IsWhole m
     → list_all (leaves x) bs ≡ true → Same x m (run from (all_done bs) m)
 left_run from x [] m there whole left = same_all x m
 left_run from x (b ∷ bs) m there whole left =

@@ -4,7 +4,7 @@ use Rattle.std.specs.Prelude.{nat_le}
 use Rattle.std.specs.List.{All, list_all}
 use Rattle.std.proofs.lemmas.Bool.{and_parts, leb-true, ltb-true}
 use Rattle.std.proofs.lemmas.List.Elements.{All-nil, All-cons}
-use Rattle.patmos_instr.specs.Bundles.{Slots}
+use Rattle.patmos_instr.specs.Bundles.{PlainBundle}
 use Rattle.patmos_instr.specs.declared.memories.Mem.{Mem}
 use Rattle.patmos_instr.specs.declared.memories.Mem.TheVariants as mem
 use Rattle.patmos_instr.specs.declared.memories.Width.TheVariants as load
@@ -241,7 +241,7 @@ pub asks_joined : {Named : Use → Type 0} (f : ℕ → List Step) (xs ys : Plai
     → AsksOnly Named (parts_trail f ys) → AsksOnly Named (parts_trail f (joined xs ys))
 asks_joined {Named} f xs ys a b = subst (AsksOnly Named) (sym (trail_joined f xs ys)) (asks_append a b)
 
-pub asks_lone : {Named : Use → Type 0} (f : ℕ → List Step) (bs : List Slots) → AsksOnly Named (all_done bs)
+pub asks_lone : {Named : Use → Type 0} (f : ℕ → List Step) (bs : List PlainBundle) → AsksOnly Named (all_done bs)
     → AsksOnly Named (parts_trail f (one (straight bs)))
 asks_lone {Named} f bs a = subst (AsksOnly Named) (sym (append-nil (all_done bs))) a
 
@@ -320,7 +320,7 @@ expr_asks homes Named f e rd to some_to few some fits named =
     named) (value_asks homes Named f e rd to some_to few fits named)
 
 -- a truth that goes to a predicate asks for what its operands do
-test_near : (b : Slots) → is_test_bundle b ≡ true → is_near b ≡ true
+test_near : (b : PlainBundle) → is_test_bundle b ≡ true → is_near b ≡ true
 test_near b is = grind (arith, is)
 
 pub flag_asks : (homes : Homes) (Named : Use → Type 0) (f : ℕ → List Step) (p : ℕ) (e : PlainSp) → ExprFits e FIRST
@@ -328,7 +328,7 @@ pub flag_asks : (homes : Homes) (Named : Use → Type 0) (f : ℕ → List Step)
 flag_asks homes Named f p e fits named =
     flag_is parts p (λ func a b. near (combine func p a b ∷ []) refl) e (fits, named)
   where
-    near : (bs : List Slots) → list_all is_near bs ≡ true → AsksOnly Named (parts_trail f (one (straight bs)))
+    near : (bs : List PlainBundle) → list_all is_near bs ≡ true → AsksOnly Named (parts_trail f (one (straight bs)))
     near bs all = asks_lone f bs (near_asks Named bs all)
 
     parts : TruthParts (λ ps. AsksOnly Named (parts_trail f ps)) homes (λ e. ExprFits e FIRST

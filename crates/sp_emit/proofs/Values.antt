@@ -2,7 +2,7 @@
 use Rattle.std.proofs.Common.{◌≡◌, ℕ, ◌+◌, ◌<◌, ◌≤◌, ◌^◌, Bool, true, false, if◌then◌else◌, List, [], ◌∷◌, refl, sym, ap, ◌∙◌, subst, arith, nat_lt, append-nil, true≢false, Option, None, Some}
 use Rattle.std.specs.Prelude.{is_none}
 use Rattle.std.proofs.lemmas.Bool.{and_parts, ltb-true, eqb-true}
-use Rattle.patmos_instr.specs.Bundles.{Slots}
+use Rattle.patmos_instr.specs.Bundles.{PlainBundle}
 use Rattle.sp_tree.specs.Formed.{names_words, array_formed}
 use Rattle.sp_tree.specs.Need.{need}
 use Rattle.sp_tree.specs.Operators.{unary_value, binary_value}
@@ -144,7 +144,7 @@ shows_still {homes} {slots} {rd} {s} {m} {t} keeps shows = record {
 -- ---- what is left
 
 -- the code of straight bundles alone
-pub run_lone : (from : Sources) (f : ℕ → List Step) (bs : List Slots) (m : Run)
+pub run_lone : (from : Sources) (f : ℕ → List Step) (bs : List PlainBundle) (m : Run)
     → run from (parts_trail f (one (straight bs))) m ≡ run from (all_done bs) m
 run_lone from f bs m = ap (λ steps. run from steps m) (append-nil (all_done bs))
 

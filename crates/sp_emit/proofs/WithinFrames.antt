@@ -3,7 +3,7 @@ use Rattle.std.proofs.Common.{◌≡◌, ℕ, zero, suc, ◌+◌, ◌-◌, ◌<�
 use Rattle.std.specs.Prelude.{nat_le}
 use Rattle.std.specs.List.{list_all}
 use Rattle.std.proofs.lemmas.Bool.{and_parts, lt-ltb, ltb-true}
-use Rattle.patmos_instr.specs.Bundles.{Slots}
+use Rattle.patmos_instr.specs.Bundles.{PlainBundle}
 use Rattle.patmos_instr.specs.declared.functions.StackFunc.TheVariants.{Sens}
 use Rattle.patmos_sem.specs.declared.effects.Effect.TheVariants as effect
 use Rattle.c_world.specs.declared.region.Region.{Region}
@@ -52,7 +52,7 @@ use Rattle.sp_emit.specs.declared.stands.Homes.{Homes}
 abbrev Inside : ℕ → PlainParts → Type 0
 Inside frame parts = parts_all (is_inside frame) parts ≡ true
 
-abbrev AreInside : ℕ → List Slots → Type 0
+abbrev AreInside : ℕ → List PlainBundle → Type 0
 AreInside frame bs = list_all (is_inside frame) bs ≡ true
 
 unary_inside : (frame : ℕ) (op : SpUnary) (rd ra : ℕ) → AreInside frame (unary_code op rd ra)
@@ -148,7 +148,7 @@ expr_inside homes frame slots e rd to out named =
     each_joined (is_inside frame) (operands_code homes e rd) (value_code homes e rd to)
     (operands_inside homes frame slots e rd out named) (value_inside homes frame slots e rd to out named)
 
-tests_inside : (frame : ℕ) (bs : List Slots) → AreTests bs → Inside frame (one (straight bs))
+tests_inside : (frame : ℕ) (bs : List PlainBundle) → AreTests bs → Inside frame (one (straight bs))
 tests_inside frame bs tests =
     each_lone (is_inside frame) bs (all_weaker is_test_bundle (is_inside frame) (λ b is. grind (arith, is)) bs tests)
 
@@ -234,7 +234,7 @@ stay_joined from f frame xs ys a b m framed =
     subst (Stays frame m) (sym (run_joined from f xs ys m))
     (stays_then first (b (run from (parts_trail f xs) m) first.framed))
 
-bundles_stay : (from : Sources) (f : ℕ → List Step) (frame : ℕ) (bs : List Slots) → AreInside frame bs
+bundles_stay : (from : Sources) (f : ℕ → List Step) (frame : ℕ) (bs : List PlainBundle) → AreInside frame bs
     → StaysIn from frame (parts_trail f (one (straight bs)))
 bundles_stay from f frame bs inside m framed =
     subst (Stays frame m) (sym (run_lone from f bs m)) (inside_done from frame bs m framed inside)

@@ -2,7 +2,7 @@
 use Rattle.std.proofs.Common.{◌≡◌, ℕ, zero, suc, ◌+◌, ◌%◌, ◌^◌, ◌<◌, ◌≤◌, ◌⊎◌, inl, inr, Bool, true, false, if◌then◌else◌, refl, ap, ◌∙◌, arith}
 use Rattle.std.proofs.lemmas.Bool.{cases_lt, ltb-true, ltb-false, lt-ltb}
 use Rattle.shared_order.specs.Words.{put}
-use Rattle.patmos_instr.specs.Bundles.{Slots}
+use Rattle.patmos_instr.specs.Bundles.{PlainBundle}
 use Rattle.patmos_instr.specs.declared.guards.Guard.{Guard}
 use Rattle.patmos_instr.specs.declared.functions.ImmFunc.TheVariants as imm
 use Rattle.patmos_instr.specs.declared.instructions.Op.TheVariants.{AluImm, Load, Store}
@@ -62,7 +62,8 @@ read_op_is P homes rd slot here there = by (in_register homes slot) refl
     by true is = here
     by false is = there is
 
-pub read_is : (P : Slots → Type 0) (homes rd slot : ℕ) → P (copy rd (homes + slot)) → (in_register homes slot ≡ false
+pub read_is : (P : PlainBundle → Type 0) (homes rd slot : ℕ) → P (copy rd (homes + slot))
+    → (in_register homes slot ≡ false
     → P (load_slot rd (stack_word homes slot))) → P (read_word homes rd slot)
 read_is P homes rd slot here there = read_op_is (λ op. P (under always op)) homes rd slot here there
 
@@ -76,7 +77,7 @@ fetch_op_is P homes slot here there = by (in_register homes slot) refl
     by true is = here
     by false is = there is
 
-pub fetch_is : (P : Slots → Type 0) (homes slot : ℕ) → P idle → (in_register homes slot ≡ false
+pub fetch_is : (P : PlainBundle → Type 0) (homes slot : ℕ) → P idle → (in_register homes slot ≡ false
     → P (load_slot SPARE (stack_word homes slot))) → P (fetch_word homes slot)
 fetch_is P homes slot here there = fetch_op_is (λ op. P (under always op)) homes slot here there
 
@@ -95,7 +96,7 @@ fetched_some homes slot some = fetched_is (λ r. 1 ≤ r) homes slot (λ lt. ome
 pub fetched_few : (homes slot : ℕ) → fetched_at homes slot < 32
 fetched_few homes slot = fetched_is (λ r. r < 32) homes slot (λ lt. omega (arith, lt)) (omega arith)
 
-pub keep_is : (P : Slots → Type 0) (homes slot : ℕ) → P idle → (in_register homes slot ≡ false
+pub keep_is : (P : PlainBundle → Type 0) (homes slot : ℕ) → P idle → (in_register homes slot ≡ false
     → P (store_slot always (stack_word homes slot) SPARE)) → P (keep_word homes slot)
 unfolding keep_op
 keep_is P homes slot here there = by (in_register homes slot) refl

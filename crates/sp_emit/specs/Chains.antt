@@ -1,7 +1,7 @@
 -- To be believed. What calls: which statements do, and how many words of the stack the frames take, each of its own and
 -- all on a chain of calls.
 use Rattle.std.specs.Prelude.{ℕ, zero, suc, ◌+◌, ◌==◌, max, nat_le, Bool, true, false, ◌||◌, List, slice_index_or, if◌then◌else◌}
-use Rattle.patmos_instr.specs.Bundles.{Slots}
+use Rattle.patmos_instr.specs.Bundles.{PlainBundle}
 use Rattle.patmos_instr.specs.declared.functions.StackFunc.TheVariants.{Sres}
 use Rattle.patmos_instr.specs.declared.instructions.Op.{Op}
 use Rattle.patmos_instr.specs.declared.instructions.Op.TheVariants.{Stack}
@@ -23,7 +23,7 @@ abbrev takes_op : ℕ → Op → Bool
 takes_op most (Stack Sres count) = nat_le count most
 takes_op most _ = true
 
-abbrev pub takes_at_most : ℕ → Slots → Bool
+abbrev pub takes_at_most : ℕ → PlainBundle → Bool
 takes_at_most most b = takes_op most b.first.op
 
 -- the most that the calls of statements take, over what functions take by their number

@@ -3,7 +3,7 @@
 -- what that quotient times the divisor lacks.
 use Rattle.std.specs.Prelude.{ℕ, ◌+◌, ◌-◌, ◌*◌, ◌/◌, ◌%◌, ◌^◌, ◌==◌, ◌&&◌, nat_lt, Bool, List, [], ◌∷◌, ◌++◌}
 use Rattle.std.specs.Int.{w32, leading_zeros}
-use Rattle.patmos_instr.specs.Bundles.{Slots}
+use Rattle.patmos_instr.specs.Bundles.{PlainBundle}
 use Rattle.patmos_instr.specs.declared.functions.AluFunc.TheVariants as alu
 use Rattle.patmos_instr.specs.declared.functions.CmpFunc.TheVariants as cmp
 use Rattle.patmos_instr.specs.declared.functions.ImmFunc.TheVariants as imm
@@ -42,14 +42,14 @@ is_exact greatest n = nat_lt 1 n && (nat_lt (factor n) (2 ^ 32) && nat_lt (surpl
 -- ---- words without signs
 
 -- by powers of two; the quotient, and what is left
-abbrev pub power_quotient_to : ℕ → ℕ → ℕ → List Slots
+abbrev pub power_quotient_to : ℕ → ℕ → ℕ → List PlainBundle
 power_quotient_to rd ra n = with_short always imm.Sr rd ra (highest n) ∷ []
 
-abbrev pub power_rest_to : ℕ → ℕ → ℕ → List Slots
+abbrev pub power_rest_to : ℕ → ℕ → ℕ → List PlainBundle
 power_rest_to rd ra n = with_short always imm.And rd ra (n - 1) ∷ []
 
 -- by others; the quotient, and what is left
-abbrev pub factor_quotient_to : ℕ → ℕ → ℕ → List Slots
+abbrev pub factor_quotient_to : ℕ → ℕ → ℕ → List PlainBundle
 factor_quotient_to rd ra n =
     set_long DIVISOR (factor n)
     ∷ multiply_unsigned ra DIVISOR
@@ -57,7 +57,7 @@ factor_quotient_to rd ra n =
     ∷ with_short always imm.Sr rd rd (moved n)
     ∷ []
 
-unfoldable pub factor_rest_to : ℕ → ℕ → ℕ → List Slots
+unfoldable pub factor_rest_to : ℕ → ℕ → ℕ → List PlainBundle
 factor_rest_to rd ra n =
     set_long DIVISOR (factor n)
     ∷ multiply_unsigned ra DIVISOR
@@ -72,7 +72,7 @@ factor_rest_to rd ra n =
 -- ---- signed words
 
 -- a word is divided without its sign, which what comes of it gets
-abbrev pub signed_to : ℕ → ℕ → List Slots → List Slots
+abbrev pub signed_to : ℕ → ℕ → List PlainBundle → List PlainBundle
 signed_to rd ra code =
     compare_short cmp.Btest TEST ra 31
     ∷ copy DIVIDEND ra

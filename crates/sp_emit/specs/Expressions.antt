@@ -2,7 +2,7 @@
 -- one on, beside those that are spare. Of two operands the one of the greater need is worked out first, so that registers
 -- suffice.
 use Rattle.std.specs.Prelude.{ℕ, ◌+◌, ◌-◌, ◌*◌, ◌^◌, ◌==◌, ◌&&◌, ◌||◌, nat_lt, nat_le, Bool, true, false, if◌then◌else◌, List, [], ◌∷◌, Option, None, Some, is_none}
-use Rattle.patmos_instr.specs.Bundles.{Slots}
+use Rattle.patmos_instr.specs.Bundles.{PlainBundle}
 use Rattle.patmos_instr.specs.declared.functions.AluFunc.{AluFunc}
 use Rattle.patmos_instr.specs.declared.functions.AluFunc.TheVariants as alu
 use Rattle.patmos_instr.specs.declared.functions.CmpFunc.{CmpFunc}
@@ -62,23 +62,23 @@ array_space region.Shared = mem.M
 -- ---- operators
 
 -- 1 where a predicate is true, else 0
-abbrev pub truth_of : ℕ → ℕ → List Slots
+abbrev pub truth_of : ℕ → ℕ → List PlainBundle
 truth_of p rd = set_short always rd 0 ∷ set_short (where_so p) rd 1 ∷ []
 
-abbrev pub truth_to : ℕ → List Slots
+abbrev pub truth_to : ℕ → List PlainBundle
 truth_to rd = truth_of TEST rd
 
 -- of the word of one register, in another
-abbrev pub unary_code : SpUnary → ℕ → ℕ → List Slots
+abbrev pub unary_code : SpUnary → ℕ → ℕ → List PlainBundle
 unary_code unary.Minus rd ra = compute always alu.Sub rd 0 ra ∷ []
 unary_code unary.Complement rd ra = compute always alu.Nor rd ra 0 ∷ []
 unary_code unary.Not rd ra = compare_short cmp.Eq TEST ra 0 ∷ truth_to rd
 
-abbrev pub both_code : PredFunc → ℕ → ℕ → ℕ → List Slots
+abbrev pub both_code : PredFunc → ℕ → ℕ → ℕ → List PlainBundle
 both_code func rd ra rb =
     compare_short cmp.Neq TEST ra 0 ∷ compare_short cmp.Neq SECOND rb 0 ∷ combine func TEST TEST SECOND ∷ truth_to rd
 
-abbrev pub compared_code : CmpFunc → ℕ → ℕ → ℕ → List Slots
+abbrev pub compared_code : CmpFunc → ℕ → ℕ → ℕ → List PlainBundle
 compared_code func rd ra rb = compare func TEST ra rb ∷ truth_to rd
 
 abbrev pub computed : AluFunc → ℕ → ℕ → ℕ → PlainParts
@@ -150,13 +150,13 @@ is_immediate op (constant n) = nat_lt n (immediate_below op) && (is_short op n |
 is_immediate op _ = false
 
 -- an operator whose second operand is such a constant
-abbrev pub held_computed : ImmFunc → ℕ → ℕ → ℕ → List Slots
+abbrev pub held_computed : ImmFunc → ℕ → ℕ → ℕ → List PlainBundle
 held_computed func rd ra n = with_short always func rd ra n ∷ []
 
-abbrev pub held_compared : CmpFunc → ℕ → ℕ → ℕ → List Slots
+abbrev pub held_compared : CmpFunc → ℕ → ℕ → ℕ → List PlainBundle
 held_compared func rd ra n = compare_short func TEST ra n ∷ truth_to rd
 
-abbrev pub short_code : SpBinary → ℕ → ℕ → ℕ → List Slots
+abbrev pub short_code : SpBinary → ℕ → ℕ → ℕ → List PlainBundle
 short_code binary.BitOr rd ra n = held_computed imm.Or rd ra n
 short_code binary.BitXor rd ra n = held_computed imm.Xor rd ra n
 short_code binary.BitAnd rd ra n = held_computed imm.And rd ra n
@@ -178,7 +178,7 @@ short_code binary.RemainderUnsigned rd ra n = power_rest_to rd ra n
 short_code _ rd ra n = []
 
 -- and of a division by another constant
-abbrev pub factor_code : SpBinary → ℕ → ℕ → ℕ → List Slots
+abbrev pub factor_code : SpBinary → ℕ → ℕ → ℕ → List PlainBundle
 factor_code binary.Divide rd ra n = signed_to rd ra (factor_quotient_to rd DIVIDEND n)
 factor_code binary.DivideUnsigned rd ra n = factor_quotient_to rd ra n
 factor_code binary.Remainder rd ra n = signed_to rd ra (factor_rest_to rd DIVIDEND n)
@@ -186,7 +186,7 @@ factor_code binary.RemainderUnsigned rd ra n = factor_rest_to rd ra n
 factor_code _ rd ra n = []
 
 -- the one or the other
-abbrev pub held_code : SpBinary → ℕ → ℕ → ℕ → List Slots
+abbrev pub held_code : SpBinary → ℕ → ℕ → ℕ → List PlainBundle
 held_code op rd ra n = if is_short op n then short_code op rd ra n else factor_code op rd ra n
 
 -- ---- addresses of elements
@@ -220,17 +220,17 @@ unfoldable pub scaled_op : SpArray → ℕ → ℕ → Op
 scaled_op a rd ra = if has_offset a then AluImm imm.Sl rd ra 2 else AluReg alu.Shadd2 rd ra SPARE
 
 -- where the test fails, a load or a store that adds so many words is made at word 0
-abbrev pub at_word_0 : ℕ → ℕ → ℕ → Slots
+abbrev pub at_word_0 : ℕ → ℕ → ℕ → PlainBundle
 at_word_0 p rd words = with_short (where_not p) imm.Sub rd 0 (4 * words)
 
 -- ---- expressions
 
-abbrev pub cell_code : SpCell → ℕ → List Slots
+abbrev pub cell_code : SpCell → ℕ → List PlainBundle
 cell_code c rd = set_number rd (address_of c.region c.word) ∷ load_from (cell_space c.region) rd rd 0 ∷ []
 
 -- of the index in one register, in another. Where it is at or past the length the load is made at word 0, and 0 is taken
 -- in its place
-abbrev pub element_code : SpArray → ℕ → ℕ → List Slots
+abbrev pub element_code : SpArray → ℕ → ℕ → List PlainBundle
 element_code a rd ra =
     under always (length_op a.length)
     ∷ under always (below_op TEST ra a.length)
@@ -267,7 +267,7 @@ abbrev pub unless : Bool → PlainParts → PlainParts
 unless there code = if there then no_part else code
 
 -- the value of a word of the frame
-abbrev pub word_code : Option ℕ → ℕ → ℕ → ℕ → List Slots
+abbrev pub word_code : Option ℕ → ℕ → ℕ → ℕ → List PlainBundle
 word_code (Some p) homes to slot = truth_of p to
 word_code None homes to slot = read_word homes to slot ∷ []
 

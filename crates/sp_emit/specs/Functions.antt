@@ -2,7 +2,7 @@
 -- first words that its tree names; then counters of iterations, those inside others before them; and last the place to
 -- which it returns, where it calls others.
 use Rattle.std.specs.Prelude.{ℕ, zero, suc, ◌+◌, ◌-◌, if◌then◌else◌, List, [], ◌∷◌, ◌++◌, Option, None, Some, length, slice_index_or}
-use Rattle.patmos_instr.specs.Bundles.{Slots}
+use Rattle.patmos_instr.specs.Bundles.{PlainBundle}
 use Rattle.patmos_instr.specs.declared.functions.CmpFunc.TheVariants as cmp
 use Rattle.patmos_instr.specs.declared.functions.ImmFunc.TheVariants as imm
 use Rattle.patmos_instr.specs.declared.functions.StackFunc.TheVariants.{Sres, Sfree}
@@ -20,10 +20,10 @@ use Rattle.sp_emit.specs.declared.registers.TheConstants.{RESULT, MASK, FIRST, S
 use Rattle.sp_emit.specs.declared.stands.Homes.{Homes}
 
 -- the first so many arguments go to the first words
-abbrev pub argument_kept : ℕ → ℕ → List Slots
+abbrev pub argument_kept : ℕ → ℕ → List PlainBundle
 argument_kept homes n = set_word homes always n (FIRST + n) ∷ []
 
-abbrev pub arguments_kept : ℕ → ℕ → List Slots
+abbrev pub arguments_kept : ℕ → ℕ → List PlainBundle
 arguments_kept homes zero = []
 arguments_kept homes (suc n) = arguments_kept homes n ++ argument_kept homes n
 
@@ -43,7 +43,7 @@ abbrev pub frame_words : ℕ → PlainFunction → ℕ
 frame_words homes f = base_slot homes f + (if stmts_call f.body then 2 else 0)
 
 -- the place to which it returns goes there, and comes back from there
-abbrev pub place_stored : ℕ → PlainFunction → List Slots
+abbrev pub place_stored : ℕ → PlainFunction → List PlainBundle
 place_stored homes f =
     from_special SPARE special.Srb
     ∷ store_slot always (base_slot homes f) SPARE
@@ -51,7 +51,7 @@ place_stored homes f =
     ∷ store_slot always (offset_slot homes f) SPARE
     ∷ []
 
-abbrev pub place_loaded : ℕ → PlainFunction → List Slots
+abbrev pub place_loaded : ℕ → PlainFunction → List PlainBundle
 place_loaded homes f =
     load_slot SPARE (base_slot homes f)
     ∷ to_special writable.Srb SPARE
@@ -60,51 +60,51 @@ place_loaded homes f =
     ∷ []
 
 -- both where it calls others, each of which sets another place; else its own stays set
-abbrev pub place_kept : ℕ → PlainFunction → List Slots
+abbrev pub place_kept : ℕ → PlainFunction → List PlainBundle
 place_kept homes f = if stmts_call f.body then place_stored homes f else []
 
-abbrev pub place_brought : ℕ → PlainFunction → List Slots
+abbrev pub place_brought : ℕ → PlainFunction → List PlainBundle
 place_brought homes f = if stmts_call f.body then place_loaded homes f else []
 
 -- the mask goes to its word: in a predicate it is tested at once
-abbrev pub mask_in : Option ℕ → ℕ → ℕ → List Slots
+abbrev pub mask_in : Option ℕ → ℕ → ℕ → List PlainBundle
 mask_in (Some p) homes mask = compare_short cmp.Eq p MASK 0 ∷ []
 mask_in None homes mask = with_short always imm.Xor MASK MASK 1 ∷ set_word homes always mask MASK ∷ []
 
-abbrev pub mask_kept : Homes → PlainFunction → List Slots
+abbrev pub mask_kept : Homes → PlainFunction → List PlainBundle
 mask_kept homes f = mask_in (flag_of homes.flags f.mask) homes.first f.mask
 
-abbrev pub state_kept : Homes → PlainFunction → List Slots
+abbrev pub state_kept : Homes → PlainFunction → List PlainBundle
 state_kept homes f = mask_kept homes f ++ place_kept homes.first f
 
 -- so many words of the stack are taken, and freed; nothing is done for none
-abbrev pub words_taken : ℕ → List Slots
+abbrev pub words_taken : ℕ → List PlainBundle
 words_taken zero = []
 words_taken (suc n) = stack_op Sres (suc n) ∷ []
 
-abbrev pub words_freed : ℕ → List Slots
+abbrev pub words_freed : ℕ → List PlainBundle
 words_freed zero = []
 words_freed (suc n) = stack_op Sfree (suc n) ∷ []
 
-abbrev pub frame_taken : ℕ → PlainFunction → List Slots
+abbrev pub frame_taken : ℕ → PlainFunction → List PlainBundle
 frame_taken homes f = words_taken (frame_words homes f)
 
-abbrev pub frame_freed : ℕ → PlainFunction → List Slots
+abbrev pub frame_freed : ℕ → PlainFunction → List PlainBundle
 frame_freed homes f = words_freed (frame_words homes f)
 
-abbrev pub function_begin : Homes → PlainFunction → List Slots
+abbrev pub function_begin : Homes → PlainFunction → List PlainBundle
 function_begin homes f =
     frame_taken homes.first f
     ++ (words_cleared homes (slots_of f) ++ (arguments_kept homes.first f.parameters ++ state_kept homes f))
 
 -- the result and the flag are given, and the frame is freed
-abbrev pub result_given : ℕ → PlainFunction → List Slots
+abbrev pub result_given : ℕ → PlainFunction → List PlainBundle
 result_given homes f = read_word homes RESULT f.result ∷ copy MASK OVERRUN ∷ frame_freed homes f
 
-abbrev pub function_end : ℕ → PlainFunction → List Slots
+abbrev pub function_end : ℕ → PlainFunction → List PlainBundle
 function_end homes f = place_brought homes f ++ result_given homes f
 
-abbrev pub return_tail : List Slots
+abbrev pub return_tail : List PlainBundle
 return_tail = return ∷ idle ∷ idle ∷ idle ∷ []
 
 abbrev pub leaving : PlainPart

@@ -3,7 +3,7 @@
 -- find none there in the stack, one after another from its top on.
 use Rattle.std.specs.Prelude.{ℕ, ◌+◌, ◌-◌, ◌^◌, ◌==◌, nat_lt, max, min, Bool, false, if◌then◌else◌, zero, suc, List, [], ◌∷◌, ◌++◌, Option, None, Some, slice_index_or}
 use Rattle.c_world.specs.Numbers.{flag}
-use Rattle.patmos_instr.specs.Bundles.{Slots}
+use Rattle.patmos_instr.specs.Bundles.{PlainBundle}
 use Rattle.patmos_instr.specs.declared.guards.Guard.{Guard}
 use Rattle.patmos_instr.specs.declared.functions.CmpFunc.TheVariants as cmp
 use Rattle.patmos_instr.specs.declared.functions.ImmFunc.TheVariants as imm
@@ -65,16 +65,18 @@ shown_word homes slot m = held_in (flag_of homes.flags slot) homes.first slot m
 -- a register gets what a word holds that stands in no predicate
 unfoldable pub read_op : ℕ → ℕ → ℕ → Op
 read_op homes rd slot =
-    if in_register homes slot then AluImm imm.Add rd (homes + slot) 0 else Load mem.S load.Word rd 0 (stack_word homes slot)
+    if in_register homes slot then AluImm imm.Add rd (homes + slot) 0 else Load mem.S load.Word rd 0
+    (stack_word homes slot)
 
-abbrev pub read_word : ℕ → ℕ → ℕ → Slots
+abbrev pub read_word : ℕ → ℕ → ℕ → PlainBundle
 read_word homes rd slot = under always (read_op homes rd slot)
 
 -- the spare register gets what a word of the stack holds; a word in a register is used there
 unfoldable pub fetch_op : ℕ → ℕ → Op
-fetch_op homes slot = if in_register homes slot then AluImm imm.Add 0 0 0 else Load mem.S load.Word SPARE 0 (stack_word homes slot)
+fetch_op homes slot =
+    if in_register homes slot then AluImm imm.Add 0 0 0 else Load mem.S load.Word SPARE 0 (stack_word homes slot)
 
-abbrev pub fetch_word : ℕ → ℕ → Slots
+abbrev pub fetch_word : ℕ → ℕ → PlainBundle
 fetch_word homes slot = under always (fetch_op homes slot)
 
 abbrev pub fetched_at : ℕ → ℕ → ℕ
@@ -82,28 +84,30 @@ fetched_at homes slot = if in_register homes slot then homes + slot else SPARE
 
 -- and goes back to the stack from there
 unfoldable pub keep_op : ℕ → ℕ → Op
-keep_op homes slot = if in_register homes slot then AluImm imm.Add 0 0 0 else Store mem.S store.Word 0 SPARE (stack_word homes slot)
+keep_op homes slot =
+    if in_register homes slot then AluImm imm.Add 0 0 0 else Store mem.S store.Word 0 SPARE (stack_word homes slot)
 
-abbrev pub keep_word : ℕ → ℕ → Slots
+abbrev pub keep_word : ℕ → ℕ → PlainBundle
 keep_word homes slot = under always (keep_op homes slot)
 
 -- a word gets what a register holds
 unfoldable pub set_op : ℕ → ℕ → ℕ → Op
 set_op homes slot rs =
-    if in_register homes slot then AluImm imm.Add (homes + slot) rs 0 else Store mem.S store.Word 0 rs (stack_word homes slot)
+    if in_register homes slot then AluImm imm.Add (homes + slot) rs 0 else Store mem.S store.Word 0 rs
+    (stack_word homes slot)
 
-abbrev pub set_word : ℕ → Guard → ℕ → ℕ → Slots
+abbrev pub set_word : ℕ → Guard → ℕ → ℕ → PlainBundle
 set_word homes guard slot rs = under guard (set_op homes slot rs)
 
 -- those of the first so many words that stand in predicates and in registers are set to 0
-unfoldable pub cleared_in : Option ℕ → ℕ → ℕ → List Slots
+unfoldable pub cleared_in : Option ℕ → ℕ → ℕ → List PlainBundle
 cleared_in (Some p) homes slot = combine comb.Pxor p 0 0 ∷ []
 cleared_in None homes slot = if in_register homes slot then set_short always (homes + slot) 0 ∷ [] else []
 
-abbrev pub word_cleared : Homes → ℕ → List Slots
+abbrev pub word_cleared : Homes → ℕ → List PlainBundle
 word_cleared homes slot = cleared_in (flag_of homes.flags slot) homes.first slot
 
-abbrev pub words_cleared : Homes → ℕ → List Slots
+abbrev pub words_cleared : Homes → ℕ → List PlainBundle
 words_cleared homes zero = []
 words_cleared homes (suc n) = words_cleared homes n ++ word_cleared homes n
 
@@ -115,17 +119,17 @@ unfoldable pub seek_op : Option ℕ → ℕ → ℕ → Op
 seek_op (Some p) homes mask = AluImm imm.Add 0 0 0
 seek_op None homes mask = fetch_op homes mask
 
-abbrev pub seek_word : Homes → ℕ → Slots
+abbrev pub seek_word : Homes → ℕ → PlainBundle
 seek_word homes mask = under always (seek_op (flag_of homes.flags mask) homes.first mask)
 
 unfoldable pub match_op : Option ℕ → ℕ → ℕ → Op
 match_op (Some p) homes mask = AluImm imm.Add 0 0 0
 match_op None homes mask = CmpImm cmp.Eq TEST (fetched_at homes mask) 1
 
-abbrev pub match_word : Homes → ℕ → Slots
+abbrev pub match_word : Homes → ℕ → PlainBundle
 match_word homes mask = under always (match_op (flag_of homes.flags mask) homes.first mask)
 
-abbrev pub mask_test : Homes → ℕ → List Slots
+abbrev pub mask_test : Homes → ℕ → List PlainBundle
 mask_test homes mask = seek_word homes mask ∷ match_word homes mask ∷ []
 
 -- the predicate that says it

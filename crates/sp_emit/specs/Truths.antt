@@ -1,7 +1,7 @@
 -- To be believed. The code of truths, which are 0 or 1 by their form, in predicates. A comparison sets its predicate straight,
 -- and truths that stand in predicates are joined there.
 use Rattle.std.specs.Prelude.{ℕ, ◌+◌, ◌==◌, ◌&&◌, ◌||◌, nat_lt, Bool, true, false, not, if◌then◌else◌, List, [], ◌∷◌, Option, None, Some, is_some}
-use Rattle.patmos_instr.specs.Bundles.{Slots}
+use Rattle.patmos_instr.specs.Bundles.{PlainBundle}
 use Rattle.patmos_instr.specs.declared.functions.CmpFunc.{CmpFunc}
 use Rattle.patmos_instr.specs.declared.functions.CmpFunc.TheVariants as cmp
 use Rattle.patmos_instr.specs.declared.functions.PredFunc.{PredFunc}
@@ -70,21 +70,21 @@ is_test _ = false
 
 -- ---- the test, once the operands stand in registers
 
-abbrev pub by_both : Option PredFunc → ℕ → ℕ → List Slots
+abbrev pub by_both : Option PredFunc → ℕ → ℕ → List PlainBundle
 by_both None ra rb = []
 by_both (Some func) ra rb =
     compare_short cmp.Neq TEST ra 0 ∷ compare_short cmp.Neq SECOND rb 0 ∷ combine func TEST TEST SECOND ∷ []
 
-abbrev pub by_two : Option CmpFunc → SpBinary → ℕ → ℕ → List Slots
+abbrev pub by_two : Option CmpFunc → SpBinary → ℕ → ℕ → List PlainBundle
 by_two None op ra rb = by_both (both_of op) ra rb
 by_two (Some func) op ra rb = compare func TEST ra rb ∷ []
 
 -- where it is no comparison the number is 1, and the lowest bit is tested
-abbrev pub by_number : Option CmpFunc → ℕ → ℕ → List Slots
+abbrev pub by_number : Option CmpFunc → ℕ → ℕ → List PlainBundle
 by_number None ra n = compare_short cmp.Btest TEST ra 0 ∷ []
 by_number (Some func) ra n = compare_short func TEST ra n ∷ []
 
-abbrev pub test_of : Homes → PlainSp → List Slots
+abbrev pub test_of : Homes → PlainSp → List PlainBundle
 test_of homes (constant n) = combine comb.Pxor TEST 0 0 ∷ []
 test_of homes (before_one op of) = compare_short cmp.Eq TEST (value_at homes of FIRST) 0 ∷ []
 test_of homes (between_two op a b) =
@@ -164,7 +164,7 @@ unless_stands (Some p) code = no_part
 unless_stands None code = code
 
 -- the lowest bit of a word goes to the second predicate
-abbrev pub bit_sought : ℕ → ℕ → List Slots
+abbrev pub bit_sought : ℕ → ℕ → List PlainBundle
 bit_sought homes slot = fetch_word homes slot ∷ compare_short cmp.Btest SECOND (fetched_at homes slot) 0 ∷ []
 
 abbrev pub sought : Homes → PlainSp → PlainParts
@@ -174,7 +174,7 @@ abbrev pub sought_in : Option ℕ → ℕ
 sought_in (Some p) = p
 sought_in None = SECOND
 
-abbrev pub join : Flags → ℕ → SpBinary → PlainSp → PlainSp → Slots
+abbrev pub join : Flags → ℕ → SpBinary → PlainSp → PlainSp → PlainBundle
 join flags to op a b = combine (func_in (bits_of op)) to (sought_in (flag_at flags a)) (told_in (flag_at flags b))
 
 -- both operands, of which the code of the second is given
@@ -182,7 +182,7 @@ abbrev pub operands_stood : Homes → PlainSp → PlainSp → PlainParts → Pla
 operands_stood homes a b code = joined (unless_stands (flag_at homes.flags b) code) (sought homes a)
 
 -- both conditions, of which the code of the first is given: its truth is kept in the second predicate
-abbrev pub kept_truth : List Slots
+abbrev pub kept_truth : List PlainBundle
 kept_truth = combine comb.Por SECOND TEST TEST ∷ []
 
 abbrev pub kept_code : PlainParts → PlainParts
@@ -216,9 +216,10 @@ before_flag homes (between_two op a b) =
     else unjoined_code homes op a b (truth_code homes a)
 before_flag homes e = tested_code homes e
 
-abbrev pub flag_set : Flags → ℕ → PlainSp → Slots
+abbrev pub flag_set : Flags → ℕ → PlainSp → PlainBundle
 flag_set flags to (constant n) = combine comb.Pxor to 0 0
-flag_set flags to (between_two op a b) = if joins flags op a b then join flags to op a b else combine comb.Por to TEST TEST
+flag_set flags to (between_two op a b) =
+    if joins flags op a b then join flags to op a b else combine comb.Por to TEST TEST
 flag_set flags to e = combine comb.Por to TEST TEST
 
 abbrev pub flag_by : Option ℕ → Homes → ℕ → PlainSp → PlainParts

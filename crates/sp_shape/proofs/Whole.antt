@@ -1,6 +1,6 @@
 -- Nothing is pending after a bundle that is read at once, and all registers are there.
 use Rattle.std.proofs.Common.{◌≡◌, ℕ, List, [], ◌∷◌, ◌++◌, false, refl, sym, ◌∙◌, subst, arith}
-use Rattle.patmos_instr.specs.Bundles.{Slots}
+use Rattle.patmos_instr.specs.Bundles.{PlainBundle}
 use Rattle.patmos_instr.specs.declared.functions.StackFunc.{StackFunc}
 use Rattle.patmos_instr.specs.declared.functions.StackFunc.TheVariants.{Sres, Sens, Sfree}
 use Rattle.patmos_instr.specs.declared.memories.Mem.{Mem}
@@ -56,14 +56,14 @@ effected_fits from (effect.Flow flow) m fits = fits
 -- ---- bundles and trails
 
 -- the registers after a bundle, before what it asks for
-abbrev pub behind : Slots → Run → Run
+abbrev pub behind : PlainBundle → Run → Run
 behind b m = record m { regs = after_bundle m.st m.ss b m.regs }
 
-pub late_fits : (from : Sources) (b : Slots) (m : Run) → FitsRegisters m.regs → FitsRegisters (late from b m).regs
+pub late_fits : (from : Sources) (b : PlainBundle) (m : Run) → FitsRegisters m.regs → FitsRegisters (late from b m).regs
 late_fits from b m fits = effected_fits from (effect_of b m.regs) (behind b m)
     (writes_fit (all_writes m.st m.ss b m.regs) (slot_begun m.regs b.first) m.regs fits)
 
-pub once_whole : (from : Sources) (b : Slots) (m : Run) → IsWhole m → IsWhole (once from b m)
+pub once_whole : (from : Sources) (b : PlainBundle) (m : Run) → IsWhole m → IsWhole (once from b m)
 once_whole from b m whole =
     let regs = (late from b m).regs in
     record {

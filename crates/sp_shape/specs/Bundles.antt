@@ -1,7 +1,7 @@
 -- To be believed. What is said of each bundle of a shape, wherever it stands; and of delay slots.
 use Rattle.std.specs.Prelude.{◌^◌, nat_lt, Bool, true, false, ◌&&◌, ◌==◌, List, [], ◌∷◌, is_none, if◌then◌else◌}
 use Rattle.std.specs.List.{list_all}
-use Rattle.patmos_instr.specs.Bundles.{Slots}
+use Rattle.patmos_instr.specs.Bundles.{PlainBundle}
 use Rattle.patmos_instr.specs.declared.instructions.Op.{Op}
 use Rattle.patmos_instr.specs.declared.instructions.Op.TheVariants.{AluImm, AluLong, Load, Store, Stack}
 use Rattle.patmos_instr.specs.declared.functions.ImmFunc.TheVariants as imm
@@ -13,13 +13,13 @@ use Rattle.sp_shape.specs.Parts.{PlainPart, straight, repeats, calls_to, leaves,
 -- ---- each bundle of code
 
 abbrev mutual
-  pub part_all : (Slots → Bool) → PlainPart → Bool
+  pub part_all : (PlainBundle → Bool) → PlainPart → Bool
   part_all holds (straight bs) = list_all holds bs
   part_all holds (repeats count body tail) = parts_all holds body && list_all holds tail
   part_all holds (calls_to k tail) = list_all holds tail
   part_all holds (leaves tail) = list_all holds tail
 
-  pub parts_all : (Slots → Bool) → PlainParts → Bool
+  pub parts_all : (PlainBundle → Bool) → PlainParts → Bool
   parts_all holds no_part = true
   parts_all holds (part p rest) = part_all holds p && parts_all holds rest
 
@@ -40,7 +40,7 @@ may_move (Stack func count) = true
 may_move _ = false
 
 -- what may have a transaction is always done
-abbrev pub is_steady : Slots → Bool
+abbrev pub is_steady : PlainBundle → Bool
 is_steady b = if may_move b.first.op then is_always b.first.guard else true
 
 -- ---- constants
@@ -50,7 +50,7 @@ abbrev pub is_word_op : Op → Bool
 is_word_op (AluLong func rd ra constant) = nat_lt constant (2 ^ 32)
 is_word_op _ = true
 
-abbrev pub has_word : Slots → Bool
+abbrev pub has_word : PlainBundle → Bool
 has_word b = is_word_op b.first.op
 
 -- ---- delay slots that do nothing
@@ -60,15 +60,15 @@ abbrev pub is_idle_op : Op → Bool
 is_idle_op (AluImm imm.Add rd ra n) = (rd == 0) && ((ra == 0) && (n == 0))
 is_idle_op _ = false
 
-abbrev pub is_idle : Slots → Bool
+abbrev pub is_idle : PlainBundle → Bool
 is_idle b = is_always b.first.guard && (is_idle_op b.first.op && is_none b.second)
 
 -- what stands after the flow of a tail
-abbrev pub iteration_idles : List Slots → Bool
+abbrev pub iteration_idles : List PlainBundle → Bool
 iteration_idles [] = true
 iteration_idles (b ∷ bs) = if is_branch b.first.op then list_all is_idle bs else iteration_idles bs
 
-abbrev pub way_idles : List Slots → Bool
+abbrev pub way_idles : List PlainBundle → Bool
 way_idles [] = true
 way_idles (b ∷ bs) = list_all is_idle bs
 

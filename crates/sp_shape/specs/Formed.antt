@@ -2,7 +2,7 @@
 -- iterations, and each function calls earlier ones and ends with its return (our own profile TP1, after the
 -- delay slots of the Patmos Reference Handbook).
 use Rattle.std.specs.Prelude.{ℕ, zero, suc, ◌==◌, nat_lt, nat_le, Bool, true, false, not, ◌&&◌, List, [], ◌∷◌, length, slice_index_or, if◌then◌else◌}
-use Rattle.patmos_instr.specs.Bundles.{Slots}
+use Rattle.patmos_instr.specs.Bundles.{PlainBundle}
 use Rattle.patmos_instr.specs.declared.guards.Guard.{Guard}
 use Rattle.patmos_instr.specs.declared.instructions.Op.{Op}
 use Rattle.patmos_instr.specs.declared.instructions.Op.TheVariants.{Branch, Call, BranchFill, Return}
@@ -35,23 +35,24 @@ abbrev pub is_always : Guard → Bool
 is_always g = (g.pred == 0) && not g.negated
 
 -- no flow: only a bundle's first slot can hold one
-abbrev pub are_calm : List Slots → Bool
+abbrev pub are_calm : List PlainBundle → Bool
 are_calm [] = true
 are_calm (b ∷ bs) = not (is_flow b.first.op) && are_calm bs
 
 -- so many bundles without a flow: the delay slots of one
-abbrev pub are_delay_slots : ℕ → List Slots → Bool
+abbrev pub are_delay_slots : ℕ → List PlainBundle → Bool
 are_delay_slots count bs = (length bs == count) && are_calm bs
 
 -- ---- tails
 
 -- bundles without a flow, a branch, and its two delay slots
-abbrev pub is_iteration : List Slots → Bool
+abbrev pub is_iteration : List PlainBundle → Bool
 is_iteration [] = false
-is_iteration (b ∷ bs) = if is_branch b.first.op then are_delay_slots 2 bs else (not (is_flow b.first.op) && is_iteration bs)
+is_iteration (b ∷ bs) =
+    if is_branch b.first.op then are_delay_slots 2 bs else (not (is_flow b.first.op) && is_iteration bs)
 
 -- a flow that is always taken, and its three delay slots
-abbrev pub is_way : (Op → Bool) → List Slots → Bool
+abbrev pub is_way : (Op → Bool) → List PlainBundle → Bool
 is_way is_it [] = false
 is_way is_it (b ∷ bs) = is_it b.first.op && (is_always b.first.guard && are_delay_slots 3 bs)
 

@@ -3,7 +3,7 @@
 -- began. A trail runs all iterations and calls whatever its flows ask for, so this is said apart from it.
 use Rattle.std.specs.Bool.{MatchBool}
 use Rattle.std.specs.Prelude.{ℕ, zero, suc, ◌≡◌, ◌==◌, List, [], ◌∷◌, ◌++◌, length, slice_index_or}
-use Rattle.patmos_instr.specs.Bundles.{Slots}
+use Rattle.patmos_instr.specs.Bundles.{PlainBundle}
 use Rattle.sp_shape.specs.Parts.{PlainPart, straight, repeats, calls_to, leaves, PlainParts, no_part, part, PlainShape}
 use Rattle.sp_shape.specs.Run.{Run, Back, branches, returns}
 use Rattle.sp_shape.specs.Trail.{Step, begins, all_done, part_trail, parts_trail, trails}
@@ -11,19 +11,19 @@ use Rattle.sp_shape.specs.Trail.{Step, begins, all_done, part_trail, parts_trail
 -- ---- flows, in a reading of trails: at once, or late
 
 -- the tail of an iteration asks for one flow, the branch back
-abbrev pub AsksAgain : (List Step → Run → Run) → List Slots → Run → Type 0
+abbrev pub AsksAgain : (List Step → Run → Run) → List PlainBundle → Run → Type 0
 AsksAgain go tail m = (go (all_done tail) m).ways ≡ m.ways ++ branches ∷ []
 
 -- it asks for no flow
-abbrev pub AsksNoMore : (List Step → Run → Run) → List Slots → Run → Type 0
+abbrev pub AsksNoMore : (List Step → Run → Run) → List PlainBundle → Run → Type 0
 AsksNoMore go tail m = (go (all_done tail) m).ways ≡ m.ways
 
 -- the tail of a function asks for one flow, to a place
-abbrev pub Returns : (List Step → Run → Run) → List Slots → Back → Run → Type 0
+abbrev pub Returns : (List Step → Run → Run) → List PlainBundle → Back → Run → Type 0
 Returns go tail back m = (go (all_done tail) m).ways ≡ m.ways ++ returns back.base back.offset ∷ []
 
 -- so many iterations of a body's trail and a tail are made from here, and what is said of the body holds where each begins
-abbrev pub AllIterations : (List Step → Run → Run) → (Run → Type 0) → List Step → List Slots → ℕ → Run → Type 0
+abbrev pub AllIterations : (List Step → Run → Run) → (Run → Type 0) → List Step → List PlainBundle → ℕ → Run → Type 0
 AllIterations go Inside body tail zero m = Unit {0}
 AllIterations go Inside body tail (suc zero) m = Inside m × AsksNoMore go tail (go body m)
 AllIterations go Inside body tail (suc (suc n)) m =
@@ -34,23 +34,27 @@ AllIterations go Inside body tail (suc (suc n)) m =
 -- each loop makes all its iterations, those inside its body too, and what is said of a function by its number holds where it
 -- is called and begins; over the trails of functions by their number, and with what is said of the tails of returns
 abbrev mutual
-  pub PartGoes : (List Step → Run → Run) → (ℕ → List Step) → (ℕ → Run → Type 0) → (List Slots → Run → Type 0) → PlainPart → Run → Type 0
+  pub PartGoes : (List Step → Run → Run) → (ℕ → List Step) → (ℕ → Run → Type 0) → (List PlainBundle → Run → Type 0)
+      → PlainPart → Run → Type 0
   PartGoes go f Called AtReturn (straight bs) m = Unit {0}
   PartGoes go f Called AtReturn (repeats count body tail) m =
       AllIterations go (λ t. PartsGo go f Called AtReturn body t) (parts_trail f body) tail count m
   PartGoes go f Called AtReturn (calls_to k tail) m = Called k (go (all_done tail ++ begins ∷ []) m)
   PartGoes go f Called AtReturn (leaves tail) m = AtReturn tail m
 
-  pub PartsGo : (List Step → Run → Run) → (ℕ → List Step) → (ℕ → Run → Type 0) → (List Slots → Run → Type 0) → PlainParts → Run → Type 0
+  pub PartsGo : (List Step → Run → Run) → (ℕ → List Step) → (ℕ → Run → Type 0) → (List PlainBundle → Run → Type 0)
+      → PlainParts → Run → Type 0
   PartsGo go f Called AtReturn no_part m = Unit {0}
   PartsGo go f Called AtReturn (part p rest) m =
       PartGoes go f Called AtReturn p m × PartsGo go f Called AtReturn rest (go (part_trail f p) m)
 
 -- and a return goes to a place
-abbrev pub PartIterations : (List Step → Run → Run) → (ℕ → List Step) → (ℕ → Run → Type 0) → Back → PlainPart → Run → Type 0
+abbrev pub PartIterations : (List Step → Run → Run) → (ℕ → List Step) → (ℕ → Run → Type 0) → Back
+    → PlainPart → Run → Type 0
 PartIterations go f Called back p m = PartGoes go f Called (λ tail t. Returns go tail back t) p m
 
-abbrev pub PartsIteration : (List Step → Run → Run) → (ℕ → List Step) → (ℕ → Run → Type 0) → Back → PlainParts → Run → Type 0
+abbrev pub PartsIteration : (List Step → Run → Run) → (ℕ → List Step) → (ℕ → Run → Type 0) → Back
+    → PlainParts → Run → Type 0
 PartsIteration go f Called back ps m = PartsGo go f Called (λ tail t. Returns go tail back t) ps m
 
 -- ---- functions and shapes
@@ -61,10 +65,12 @@ back_of m = record { base = m.regs.srb; offset = m.regs.sro }
 
 -- the function of a number, and those that it calls, with what is said of the tails of its returns where it begins;
 -- functions in order, each over the earlier ones
-abbrev pub FunctionsGo : (List Step → Run → Run) → (Run → List Slots → Run → Type 0) → List PlainParts → ℕ → ℕ → Run → Type 0
+abbrev pub FunctionsGo : (List Step → Run → Run) → (Run → List PlainBundle → Run → Type 0) → List PlainParts → ℕ
+    → ℕ → Run → Type 0
 FunctionsGo go AtReturn fs zero k m = Unit {0}
 FunctionsGo go AtReturn fs (suc n) k m =
-    MatchBool (k == n) (PartsGo go (trails fs n) (FunctionsGo go AtReturn fs n) (AtReturn m) (slice_index_or fs n no_part) m)
+    MatchBool (k == n) (PartsGo go (trails fs n) (FunctionsGo go AtReturn fs n) (AtReturn m)
+    (slice_index_or fs n no_part) m)
     (FunctionsGo go AtReturn fs n k m)
 
 -- each goes to the place that was set

@@ -1,14 +1,14 @@
 -- To be believed. The parts of code, without places in memory: all that they say, and no more.
 use Rattle.std.specs.Prelude.{ℕ, List}
-use Rattle.patmos_instr.specs.Bundles.{Slots}
+use Rattle.patmos_instr.specs.Bundles.{PlainBundle}
 
 -- a part of a function's code, and several one after another
 mutual
   pub data PlainPart : Type 0 where
-    straight : List Slots → PlainPart
-    repeats : ℕ → PlainParts → List Slots → PlainPart
-    calls_to : ℕ → List Slots → PlainPart
-    leaves : List Slots → PlainPart
+    straight : List PlainBundle → PlainPart
+    repeats : ℕ → PlainParts → List PlainBundle → PlainPart
+    calls_to : ℕ → List PlainBundle → PlainPart
+    leaves : List PlainBundle → PlainPart
 
   pub data PlainParts : Type 0 where
     no_part : PlainParts

@@ -8,7 +8,7 @@ use Rattle.std.specs.Prelude.{◌≡◌, ℕ, ◌+◌, ◌-◌, ◌/◌, min, ma
 use Rattle.shared_order.specs.Words.{put}
 use Rattle.stack_cache.specs.declared.slots.TheConstants.{STACK_CACHE_WORDS}
 use Rattle.stack_cache.specs.declared.stack.TheConstants.{STACK_END}
-use Rattle.patmos_instr.specs.Bundles.{Slots}
+use Rattle.patmos_instr.specs.Bundles.{PlainBundle}
 use Rattle.patmos_instr.specs.declared.functions.StackFunc.{StackFunc}
 use Rattle.patmos_instr.specs.declared.functions.StackFunc.TheVariants.{Sres, Sens, Sfree}
 use Rattle.patmos_instr.specs.declared.memories.Mem.{Mem}
@@ -149,7 +149,7 @@ effected from (effect.StackOp func count) m =
 effected from (effect.Flow flow) m = record m { ways = m.ways ++ way_of flow ∷ [] }
 
 -- read late: what is pending before the bundle comes in it, and what the bundle leaves is pending after it
-abbrev pub late : Sources → Slots → Run → Run
+abbrev pub late : Sources → PlainBundle → Run → Run
 late from b m = effected from (effect_of b m.regs) (record m { regs = after_bundle m.st m.ss b m.regs })
 
 -- what is pending comes
@@ -160,7 +160,7 @@ abbrev pub with_settled : Run → Run
 with_settled m = record m { regs = settled m.regs }
 
 -- read at once
-abbrev pub once : Sources → Slots → Run → Run
+abbrev pub once : Sources → PlainBundle → Run → Run
 once from b m = with_settled (late from b m)
 
 -- ---- a trail

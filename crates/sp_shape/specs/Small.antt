@@ -1,6 +1,6 @@
 -- To be believed. Small shapes for worked examples.
 use Rattle.std.specs.Prelude.{ℕ, pos, true, false, List, [], ◌∷◌, None}
-use Rattle.patmos_instr.specs.Bundles.{Slots}
+use Rattle.patmos_instr.specs.Bundles.{PlainBundle}
 use Rattle.patmos_instr.specs.Instructions.{nop}
 use Rattle.patmos_instr.specs.declared.guards.Guard.{Guard}
 use Rattle.patmos_instr.specs.declared.instructions.Op.{Op}
@@ -16,14 +16,14 @@ use Rattle.sp_shape.specs.Parts.{straight, repeats, calls_to, leaves, PlainParts
 abbrev pub always : Guard
 always = record { negated = false; pred = 0 }
 
-abbrev pub under : Guard → Op → Slots
+abbrev pub under : Guard → Op → PlainBundle
 under guard op = record { first = record { guard = guard; op = op }; second = None }
 
-abbrev pub idle : Slots
+abbrev pub idle : PlainBundle
 idle = record { first = nop; second = None }
 
 -- r1 = r1 + n
-abbrev pub add : ℕ → Slots
+abbrev pub add : ℕ → PlainBundle
 add n = under always (AluImm imm.Add 1 1 n)
 
 abbrev pub p1 : Guard
@@ -33,16 +33,16 @@ abbrev pub branch : Op
 branch = Branch (pos 0)
 
 -- where p1 is true, back to the begin of what is repeated
-abbrev pub again : List Slots
+abbrev pub again : List PlainBundle
 again = under p1 branch ∷ idle ∷ idle ∷ []
 
 abbrev pub call_op : Op
 call_op = Call 0
 
-abbrev pub call : List Slots
+abbrev pub call : List PlainBundle
 call = under always call_op ∷ idle ∷ idle ∷ idle ∷ []
 
-abbrev pub return : List Slots
+abbrev pub return : List PlainBundle
 return = under always Return ∷ idle ∷ idle ∷ idle ∷ []
 
 -- a function that returns at once
@@ -60,11 +60,11 @@ shape_of functions entry = record { functions = functions; entry = entry; initia
 -- ---- runs
 
 -- r1 = the first word of the scratchpad
-abbrev pub load : Slots
+abbrev pub load : PlainBundle
 load = under always (Load mem.L load_width.Word 1 0 0)
 
 -- r1 = r1 * r1, as far as it fits sl
-abbrev pub square : Slots
+abbrev pub square : PlainBundle
 square = under always (Mul true 1 1)
 
 -- the first word of the scratchpad is 7, and all others are 0

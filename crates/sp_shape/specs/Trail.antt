@@ -1,14 +1,14 @@
 -- To be believed. The trail of a shape: what is run, in its order, which no input and no value changes.
 use Rattle.std.specs.Prelude.{ℕ, zero, suc, ◌==◌, List, [], ◌∷◌, ◌++◌, length, map, slice_index_or, if◌then◌else◌}
-use Rattle.patmos_instr.specs.Bundles.{Slots}
+use Rattle.patmos_instr.specs.Bundles.{PlainBundle}
 use Rattle.sp_shape.specs.Parts.{PlainPart, straight, repeats, calls_to, leaves, PlainParts, no_part, part, PlainShape}
 
 -- a bundle, or what a call does after its last delay slot: the function that it calls begins
 pub data Step : Type 0 where
-  does : Slots → Step
+  does : PlainBundle → Step
   begins : Step
 
-abbrev pub all_done : List Slots → List Step
+abbrev pub all_done : List PlainBundle → List Step
 all_done bs = map does bs
 
 -- a list, so many times

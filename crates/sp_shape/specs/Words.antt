@@ -1,6 +1,6 @@
 -- To be believed. How many words code takes.
 use Rattle.std.specs.Prelude.{ℕ, ◌+◌, ◌||◌, is_some, Bool, true, false, List, [], ◌∷◌, if◌then◌else◌}
-use Rattle.patmos_instr.specs.Bundles.{Slots}
+use Rattle.patmos_instr.specs.Bundles.{PlainBundle}
 use Rattle.patmos_instr.specs.Instructions.{is_long}
 use Rattle.patmos_instr.specs.declared.instructions.Op.{Op}
 use Rattle.patmos_instr.specs.declared.instructions.Op.TheVariants.{Load, Mul}
@@ -9,10 +9,10 @@ use Rattle.sp_shape.specs.Parts.{PlainPart, straight, repeats, calls_to, leaves,
 -- ---- as it stands
 
 -- the second word is the constant of a long operation, or the second instruction
-abbrev pub bundle_words : Slots → ℕ
+abbrev pub bundle_words : PlainBundle → ℕ
 bundle_words b = if is_long b.first.op || is_some b.second then 2 else 1
 
-abbrev pub bundles_words : List Slots → ℕ
+abbrev pub bundles_words : List PlainBundle → ℕ
 bundles_words [] = 0
 bundles_words (b ∷ bs) = bundle_words b + bundles_words bs
 
@@ -35,10 +35,10 @@ is_late (Load space width rd ra imm) = true
 is_late (Mul unsigned ra rb) = true
 is_late _ = false
 
-abbrev pub bundle_room : Slots → ℕ
+abbrev pub bundle_room : PlainBundle → ℕ
 bundle_room b = bundle_words b + (if is_late b.first.op then 1 else 0)
 
-abbrev pub bundles_room : List Slots → ℕ
+abbrev pub bundles_room : List PlainBundle → ℕ
 bundles_room [] = 0
 bundles_room (b ∷ bs) = bundle_room b + bundles_room bs
 

@@ -10,7 +10,7 @@ use Rattle.c_world.specs.Shown.{room_in}
 use Rattle.c_world.specs.declared.region.Region.{Region}
 use Rattle.c_world.specs.declared.region.Region.TheVariants as region
 use Rattle.local_store.specs.declared.map.Cell.TheVariants as cell
-use Rattle.patmos_instr.specs.Bundles.{Slots}
+use Rattle.patmos_instr.specs.Bundles.{PlainBundle}
 use Rattle.patmos_instr.specs.declared.instructions.Instr.{Instr}
 use Rattle.patmos_instr.specs.declared.memories.Mem.TheVariants as mem
 use Rattle.patmos_sem.specs.Bundles.{effect_of}
@@ -297,17 +297,18 @@ addresses_of from (begins ∷ steps) m = addresses_of from steps (begun m)
 -- ---- tasks
 
 -- the constants of bundles that a schedule leaves out or puts in one
-constants_dropped : (b : Slots) → is_idle b ≡ true → has_constants b ≡ true
+constants_dropped : (b : PlainBundle) → is_idle b ≡ true → has_constants b ≡ true
 constants_dropped b nothing = ap has_constants (idle_is b nothing)
 
-constants_paired : (a b : Slots) → can_join a b ≡ true → has_constants (pair a b) ≡ true → (has_constants a ≡ true)
+constants_paired : (a b : PlainBundle) → can_join a b ≡ true → has_constants (pair a b) ≡ true
+    → (has_constants a ≡ true)
     × (has_constants b ≡ true)
 constants_paired a b can h =
     let both = and_parts (nat_lt (constant_of a.first.op) (2 ^ 32)) (nat_lt (constant_of b.first.op) (2 ^ 32)) h in
     let two = pairs a b can in
     (alone_fits a both.0 two.first_alone, alone_fits b both.1 two.second_alone)
   where
-    alone_fits : (x : Slots) → nat_lt (constant_of x.first.op) (2 ^ 32) ≡ true → is_none x.second ≡ true
+    alone_fits : (x : PlainBundle) → nat_lt (constant_of x.first.op) (2 ^ 32) ≡ true → is_none x.second ≡ true
         → has_constants x ≡ true
     alone_fits x fits none = so x.second none
       where
@@ -316,7 +317,7 @@ constants_paired a b can h =
         so None none = and_from (nat_lt (constant_of x.first.op) (2 ^ 32)) true fits refl
         so (Some i) none = absurd (cc)
 
-constants_apart : (b : Slots) (i : Instr) → b.second ≡ Some i → has_constants (lone b.first) ≡ true
+constants_apart : (b : PlainBundle) (i : Instr) → b.second ≡ Some i → has_constants (lone b.first) ≡ true
     → has_constants (lone i) ≡ true → has_constants b ≡ true
 constants_apart b i is first second =
     and_from (nat_lt (constant_of b.first.op) (2 ^ 32)) (second_constant b.second)

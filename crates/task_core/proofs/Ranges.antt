@@ -4,7 +4,7 @@ use Rattle.std.specs.Prelude.{◌&&◌, nat_lt}
 use Rattle.std.specs.List.{All, list_all}
 use Rattle.std.proofs.lemmas.Bool.{and_parts, ltb-true}
 use Rattle.std.proofs.lemmas.List.Elements.{All-nil, All-cons}
-use Rattle.patmos_instr.specs.Bundles.{Slots, is_legal, FitsBundle}
+use Rattle.patmos_instr.specs.Bundles.{PlainBundle, is_legal, FitsBundle}
 use Rattle.patmos_instr.specs.Instructions.{FitsOp, FitsInstr}
 use Rattle.patmos_instr.specs.declared.instructions.Instr.{Instr}
 use Rattle.patmos_instr.specs.declared.instructions.Op.{Op}
@@ -33,7 +33,7 @@ abbrev is_second_fit : Option Instr → Bool
 is_second_fit None = true
 is_second_fit (Some i) = is_instr_fit i
 
-abbrev pub is_fit : Slots → Bool
+abbrev pub is_fit : PlainBundle → Bool
 is_fit b = is_legal b.first b.second && (is_instr_fit b.first && is_second_fit b.second)
 
 -- what passes is in range
@@ -68,7 +68,7 @@ second_fits : (o : Option Instr) → is_second_fit o ≡ true → IfSome o FitsI
 second_fits None h = tt
 second_fits (Some i) h = instr_fits i h
 
-pub all_fit : (bs : List Slots) → list_all is_fit bs ≡ true → All FitsBundle bs
+pub all_fit : (bs : List PlainBundle) → list_all is_fit bs ≡ true → All FitsBundle bs
 all_fit [] h = All-nil FitsBundle
 all_fit (b ∷ bs) h =
     let both = and_parts (is_fit b) (list_all is_fit bs) h in

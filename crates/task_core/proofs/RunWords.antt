@@ -1,7 +1,7 @@
 -- A run that is given words, of bundles whose constants are words, holds words before each bundle.
 use Rattle.std.proofs.Common.{◌≡◌, ℕ, ◌+◌, ◌-◌, ◌/◌, ◌&&◌, nat_le, nat_lt, true, false, if◌then◌else◌, List, [], ◌∷◌, refl, arith}
 use Rattle.std.specs.List.{AllByRecursion as Each}
-use Rattle.patmos_instr.specs.Bundles.{Slots}
+use Rattle.patmos_instr.specs.Bundles.{PlainBundle}
 use Rattle.patmos_instr.specs.declared.functions.StackFunc.TheVariants.{Sres, Sens, Sfree}
 use Rattle.patmos_instr.specs.declared.memories.Mem.{Mem}
 use Rattle.patmos_instr.specs.declared.memories.Mem.TheVariants as mem
@@ -102,7 +102,7 @@ effected_words (effect.StackOp Sfree count) m h stores =
 
 -- ---- bundles and trails
 
-late_words : (b : Slots) (m : Run) → ConstantsFit b → AreWords m → AreWords (late by_stack b m)
+late_words : (b : PlainBundle) (m : Run) → ConstantsFit b → AreWords m → AreWords (late by_stack b m)
 late_words b m fits h =
     effected_words (effect_of b m.regs) (record m { regs = after_bundle m.st m.ss b m.regs })
     (record {
@@ -113,7 +113,7 @@ late_words b m fits h =
     })
     (λ space width address value is. stored_word b m.regs space width address value h.regs is)
 
-once_words : (b : Slots) (m : Run) → ConstantsFit b → AreWords m → AreWords (once by_stack b m)
+once_words : (b : PlainBundle) (m : Run) → ConstantsFit b → AreWords m → AreWords (once by_stack b m)
 once_words b m fits h =
     let l : AreWords (late by_stack b m) = late_words b m fits h in
     record { regs = settled_words (late by_stack b m).regs l.regs; stack = l.stack; loads = l.loads; backs = l.backs }

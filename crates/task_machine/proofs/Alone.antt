@@ -34,7 +34,7 @@ use Rattle.task_core.specs.Tasks.{code_of, IsRunnable, IsCode}
 use Rattle.task_words.specs.Meant.{Names}
 use Rattle.task_words.specs.Reach.{MayLoadWord, MayStoreWord, MaySendTo}
 use Rattle.task_words.proofs.Names.{names}
-use Rattle.task_machine.specs.Machines.{HasTask, Task, none, unknown, compiled, BeginsCompiled, BeginsAs, MayChange, IsAlone}
+use Rattle.task_machine.specs.Machines.{HasTask, KnownTask, none, unknown, compiled, BeginsCompiled, BeginsAs, MayChange, IsAlone}
 use Rattle.task_machine.specs.Reported.{read_by, task_operations}
 use Rattle.task_machine.proofs.Cores.{is_apart, with_image, values_fit}
 use Rattle.core_pace.proofs.Packets.{comes_bound, Coming, made_so, OwnSees, own_sees}
@@ -147,7 +147,7 @@ module _ (words : ℕ) (cores : ℕ → Core) (limit : ℕ) (fits : (core : ℕ)
       (idle_stands n core site limit among) values)
 
   -- no other core stores in a word that the tree reads
-  others_leave : (u : PlainUnit) (n core : ℕ) (tasks : ℕ → Task) → 2 * limit * n ≤ 2 ^ 64 → IsAlone u n core tasks
+  others_leave : (u : PlainUnit) (n core : ℕ) (tasks : ℕ → KnownTask) → 2 * limit * n ≤ 2 ^ 64 → IsAlone u n core tasks
       → (other : ℕ) → other < n → other ≢ core → BeginsAs n other (cores other) (tasks other)
       → Each (StoresOnly (Outside (MayLoadWord (Contains (uses_of u)) core))) (operations_of n other
       (cycled turn n cores limit).made)
@@ -157,7 +157,7 @@ module _ (words : ℕ) (cores : ℕ → Core) (limit : ℕ) (fits : (core : ℕ)
       os : List Operation
       os = operations_of n other (cycled turn n cores limit).made
 
-      by : (t : Task) → ((word : ℕ) → MayLoadWord (Contains (uses_of u)) core word → MayChange t other word → ⊥)
+      by : (t : KnownTask) → ((word : ℕ) → MayLoadWord (Contains (uses_of u)) core word → MayChange t other word → ⊥)
           → BeginsAs n other (cores other) t
           → Each (StoresOnly (Outside (MayLoadWord (Contains (uses_of u)) core))) (operations_of n other
           (cycled turn n cores limit).made)
@@ -181,7 +181,7 @@ module _ (u : PlainUnit) (place : Place) (input : List ℕ) (words : ℕ) (cores
   unread d named k few (inl (low, reads)) = omega (arith, low)
   unread d named k few (inr (j, (fewer, (same, reads)))) = (t.runs.targets d named).1 (omega (arith, few, fewer, same))
 
-  pub zeros_fit : (tasks : ℕ → Task) → ((other : ℕ) → other < place.cores → BeginsAs place.cores other (cores other)
+  pub zeros_fit : (tasks : ℕ → KnownTask) → ((other : ℕ) → other < place.cores → BeginsAs place.cores other (cores other)
       (tasks other)) → IsAlone u place.cores place.core tasks
       → Sees zeros (task_operations u place input (cycled turn place.cores cores limit) limit)
   zeros_fit tasks begin alone =

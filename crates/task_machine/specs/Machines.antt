@@ -33,10 +33,10 @@ pub record HasTask (u : PlainUnit) (place : Place) (input : List ℕ) (words : �
   pub room : 2 * cycles * place.cores ≤ 2 ^ 64
 
 -- what is known of the task of a core: that there is none, nothing, or that it is compiled
-pub data Task : Type 0 where
-  none : Task
-  unknown : Task
-  compiled : PlainUnit → Task
+pub data KnownTask : Type 0 where
+  none : KnownTask
+  unknown : KnownTask
+  compiled : PlainUnit → KnownTask
 
 -- a core begins so
 pub record BeginsCompiled (n core : ℕ) (x : Core) (u : PlainUnit) : Type 0 where
@@ -49,7 +49,7 @@ pub record BeginsCompiled (n core : ℕ) (x : Core) (u : PlainUnit) : Type 0 whe
   pub runs : IsRunnable u place
   pub code : IsCode u
 
-abbrev pub BeginsAs : ℕ → ℕ → Core → Task → Type 0
+abbrev pub BeginsAs : ℕ → ℕ → Core → KnownTask → Type 0
 BeginsAs n core x none = (site : Site) × (x ≡ idle site)
 BeginsAs n core x unknown = Unit {0}
 BeginsAs n core x (compiled u) = BeginsCompiled n core x u
@@ -60,7 +60,7 @@ abbrev pub IsCommOf : ℕ → ℕ → Type 0
 IsCommOf core word = (k : ℕ) × ((k < COMM_WORDS) × (word ≡ comm_word core k))
 
 -- a word that the task of a core may store in, by itself or by its packets
-abbrev pub MayChange : Task → ℕ → ℕ → Type 0
+abbrev pub MayChange : KnownTask → ℕ → ℕ → Type 0
 MayChange none core word = ⊥
 MayChange unknown core word = Unit {0}
 MayChange (compiled u) core word =
@@ -68,7 +68,7 @@ MayChange (compiled u) core word =
     ⊎ ((target : ℕ) × (Contains (uses_of u) (sends_to target) × IsCommOf target word))
 
 -- the task of no other core may change a word that the tree reads
-abbrev pub IsAlone : PlainUnit → ℕ → ℕ → (ℕ → Task) → Type 0
+abbrev pub IsAlone : PlainUnit → ℕ → ℕ → (ℕ → KnownTask) → Type 0
 IsAlone u n core tasks =
     (other : ℕ) → other < n → other ≢ core → (word : ℕ) → MayLoadWord (Contains (uses_of u)) core word
     → MayChange (tasks other) other word → ⊥

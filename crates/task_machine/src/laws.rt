@@ -5,7 +5,7 @@ ghost use Rattle.patmos_model.specs.State.{Core};
 ghost use Rattle.sp_tree.specs.Statements.{PlainUnit};
 ghost use Rattle.task_core.specs.Tasks.{times_of};
 ghost use Rattle.task_words.specs.Meant.{HasMeaning, HasWorld};
-ghost use Rattle.task_machine.specs.Machines.{machine_after, HasTask, Task, BeginsAs, IsAlone};
+ghost use Rattle.task_machine.specs.Machines.{machine_after, HasTask, KnownTask, BeginsAs, IsAlone};
 ghost use Rattle.task_machine.specs.Reported.{task_operations, AreAllItsOwn, HasTimes, IsAmong};
 
 use slot_arbiter::Place;
@@ -43,7 +43,7 @@ pub fn machines_give_tasks_their_meaning(place: &Place)
 /// A compiled task that is alone with what it reads has read zeros and its own stores: where no other task may change a
 /// word that its tree reads, the world of zeros fits its loads. A law: it does nothing.
 pub fn tasks_alone_read_zeros(place: &Place)
-    ensures { (u : PlainUnit) (input : List ℕ) (words : ℕ) (cores : ℕ → Core) (cycles : ℕ) (tasks : ℕ → Task)
+    ensures { (u : PlainUnit) (input : List ℕ) (words : ℕ) (cores : ℕ → Core) (cycles : ℕ) (tasks : ℕ → KnownTask)
         → HasTask u place.now input words cores cycles
         → ((other : ℕ) → other < place.now.cores → BeginsAs place.now.cores other (cores other) (tasks other))
         → IsAlone u place.now.cores place.now.core tasks

@@ -1,6 +1,6 @@
 -- How large parts are: what falls from a part to its body.
 use Rattle.std.proofs.Common.{◌≡◌, ℕ, zero, suc, ◌+◌, ◌<◌, ◌≤◌, List, [], ◌∷◌, length, get_or, ap, arith}
-use Rattle.patmos_instr.specs.Bundles.{Slots}
+use Rattle.patmos_instr.specs.Bundles.{PlainBundle}
 use Rattle.sp_shape.proofs.Plain.{repeat_said}
 use Rattle.sp_shape.specs.Parts.{PlainPart, straight, repeats, calls_to, leaves, PlainParts, no_part, part}
 use Rattle.sp_shape.specs.Shown.{plain_part, parts_of}
@@ -16,7 +16,7 @@ abbrev mutual
   parts_size no_part = 0
   parts_size (part p rest) = part_size p + parts_size rest
 
-pub body_size : (p : Part) (count : ℕ) (body : List Part) (tail : List Slots) → p ≡ Repeat count body tail
+pub body_size : (p : Part) (count : ℕ) (body : List Part) (tail : List PlainBundle) → p ≡ Repeat count body tail
     → part_size (plain_part p) ≡ 1 + parts_size (parts_of body)
 body_size p count body tail is = ap part_size (repeat_said p count body tail is)
 

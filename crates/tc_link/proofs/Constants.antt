@@ -3,7 +3,7 @@ use Rattle.std.proofs.Common.{◌≡◌, ℕ, suc, ◌+◌, ◌^◌, true, ◌&&
 use Rattle.std.specs.List.{All, list_all}
 use Rattle.std.proofs.lemmas.Bool.{and_from, lt-ltb}
 use Rattle.std.proofs.lemmas.List.Folds.{list_all-append}
-use Rattle.patmos_instr.specs.Bundles.{Slots, FitsBundle}
+use Rattle.patmos_instr.specs.Bundles.{PlainBundle, FitsBundle}
 use Rattle.patmos_instr.specs.Instructions.{FitsOp}
 use Rattle.patmos_instr.specs.declared.instructions.Op.{Op}
 use Rattle.patmos_instr.specs.declared.instructions.Op.TheVariants.{AluLong, Branch, Call}
@@ -17,7 +17,7 @@ fitting_word : (op : Op) → FitsOp op → is_word_op op ≡ true
 fitting_word (AluLong func rd ra constant) fits = lt-ltb constant (2 ^ 32) fits.2
 fitting_word _ fits = refl
 
-all_words : (bs : List Slots) → All FitsBundle bs → list_all has_word bs ≡ true
+all_words : (bs : List PlainBundle) → All FitsBundle bs → list_all has_word bs ≡ true
 all_words [] fits = refl
 all_words (b ∷ bs) fits =
     and_from (has_word b) (list_all has_word bs) (fitting_word b.first.op (fits 0 b (omega arith)).first.1)
@@ -25,27 +25,27 @@ all_words (b ∷ bs) fits =
 
 -- ---- targets
 
-branch_word : (words : ℕ) (b : Slots) → has_word (branch_back words b) ≡ has_word b
+branch_word : (words : ℕ) (b : PlainBundle) → has_word (branch_back words b) ≡ has_word b
 branch_word words b = so b.first.op
   where
     so : (op : Op) → has_word (branch_back words (with_op op b)) ≡ is_word_op op
     so (Branch by) = refl
     so _ = refl
 
-call_word : (start : ℕ) (b : Slots) → has_word (call_to start b) ≡ has_word b
+call_word : (start : ℕ) (b : PlainBundle) → has_word (call_to start b) ≡ has_word b
 call_word start b = so b.first.op
   where
     so : (op : Op) → has_word (call_to start (with_op op b)) ≡ is_word_op op
     so (Call target) = refl
     so _ = refl
 
-turned_words : (words : ℕ) (bs : List Slots) → list_all has_word (turned words bs) ≡ list_all has_word bs
+turned_words : (words : ℕ) (bs : List PlainBundle) → list_all has_word (turned words bs) ≡ list_all has_word bs
 turned_words words [] = refl
 turned_words words (b ∷ bs) =
     ap (λ x. x && list_all has_word (turned (words + bundle_words b) bs)) (branch_word words b)
     ∙ ap (λ x. has_word b && x) (turned_words (words + bundle_words b) bs)
 
-called_words : (start : ℕ) (bs : List Slots) → list_all has_word (called start bs) ≡ list_all has_word bs
+called_words : (start : ℕ) (bs : List PlainBundle) → list_all has_word (called start bs) ≡ list_all has_word bs
 called_words start [] = refl
 called_words start (b ∷ bs) = ap (λ x. x && list_all has_word bs) (call_word start b)
 

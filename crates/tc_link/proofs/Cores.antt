@@ -1,7 +1,7 @@
 -- Flows take effect in a walk as they do in a core.
 use Rattle.std.proofs.Common.{◌≡◌, ℕ, ◌+◌, Option, None, Some, is_some, refl, sym, ap, ◌∙◌, subst, true≢false}
 use Rattle.std.specs.Prelude.{is_none}
-use Rattle.patmos_instr.specs.Bundles.{Slots}
+use Rattle.patmos_instr.specs.Bundles.{PlainBundle}
 use Rattle.patmos_model.specs.Bundle.{asked_flow, advanced}
 use Rattle.patmos_model.specs.Checks.{check, fault_of}
 use Rattle.patmos_model.specs.Flows as model
@@ -34,11 +34,11 @@ gone_alike (goal.Call target) c w at = record {
 gone_alike (goal.Fill target) c w at = record { regs = at.regs; base = refl; offset = refl; flow = refl }
 gone_alike (goal.Return base offset) c w at = record { regs = at.regs; base = refl; offset = refl; flow = refl }
 
-pub offset_alike : (from : Sources) (b : Slots) (words : ℕ) (w : Walk) (x : Plain) → IsAs w x
+pub offset_alike : (from : Sources) (b : PlainBundle) (words : ℕ) (w : Walk) (x : Plain) → IsAs w x
     → (bundle_done from b words w).offset ≡ (advanced words b x).offset
 offset_alike from b words w x at = ap (λ n. n + words) at.offset
 
-pub flow_alike : (from : Sources) (b : Slots) (words : ℕ) (w : Walk) (x : Plain) → IsAs w x
+pub flow_alike : (from : Sources) (b : PlainBundle) (words : ℕ) (w : Walk) (x : Plain) → IsAs w x
     → (bundle_done from b words w).flow ≡ (advanced words b x).flow
 flow_alike from b words w x at =
     ap (λ f. model.counted f (asked_flow w.offset (effect_of b w.run.regs))) at.flow
@@ -51,7 +51,7 @@ flow_checked : (f : Option Flow) (pending : Option Flow) (offset : ℕ) (flow : 
 flow_checked None pending offset flow same alone = ap (λ p. check (is_none p) trap.Flow None) (sym same)
 flow_checked (Some f) pending offset flow same alone = absurd (true≢false (ap is_some alone))
 
-pub no_fault : (b : Slots) (flow : FlowKind) (w : Walk) (x : Plain) → IsAs w x
+pub no_fault : (b : PlainBundle) (flow : FlowKind) (w : Walk) (x : Plain) → IsAs w x
     → IsAlone w.flow (asked_flow w.offset (effect_of b w.run.regs)) → effect_of b x.regs ≡ effect.Flow flow
     → fault_of x (effect.Flow flow) ≡ None
 unfolding fault_of

@@ -2,7 +2,7 @@
 use Rattle.std.proofs.Common.{◌≡◌, ℕ, ◌+◌, ◌-◌, ◌≤◌, if◌then◌else◌, List, [], ◌∷◌, ◌++◌, length, refl, sym, ap, ◌∙◌, arith, length-append, append_assoc, Option, None, Some}
 use Rattle.std.specs.Prelude.{◌||◌, is_some}
 use Rattle.std.proofs.lemmas.List.Concat.{flat_map-append}
-use Rattle.patmos_instr.specs.Bundles.{Slots}
+use Rattle.patmos_instr.specs.Bundles.{PlainBundle}
 use Rattle.patmos_instr.specs.Instructions.{is_long}
 use Rattle.patmos_instr.specs.declared.instructions.Instr.{Instr}
 use Rattle.patmos_instr.specs.declared.instructions.Op.{Op}
@@ -26,39 +26,39 @@ two_or_one first (AluLong func rd ra constant) (Some i) = refl
 two_or_one first _ None = refl
 two_or_one first _ (Some i) = refl
 
-pub code_words : (b : Slots) → length (code b) ≡ bundle_words b
+pub code_words : (b : PlainBundle) → length (code b) ≡ bundle_words b
 unfolding code
 code_words b = two_or_one (instr_code b.first) b.first.op b.second
 
-pub codes_words : (bs : List Slots) → length (codes bs) ≡ bundles_words bs
+pub codes_words : (bs : List PlainBundle) → length (codes bs) ≡ bundles_words bs
 codes_words [] = refl
 codes_words (b ∷ bs) = omega (arith, length-append (code b) (codes bs), code_words b, codes_words bs)
 
-words-append : (xs ys : List Slots) → bundles_words (xs ++ ys) ≡ bundles_words xs + bundles_words ys
+words-append : (xs ys : List PlainBundle) → bundles_words (xs ++ ys) ≡ bundles_words xs + bundles_words ys
 words-append [] ys = omega arith
 words-append (b ∷ xs) ys = omega (arith, words-append xs ys)
 
 -- ---- a target takes no word
 
-call_words : (start : ℕ) (b : Slots) → bundle_words (call_to start b) ≡ bundle_words b
+call_words : (start : ℕ) (b : PlainBundle) → bundle_words (call_to start b) ≡ bundle_words b
 call_words start b = so b.first.op
   where
     so : (op : Op) → bundle_words (call_to start (with_op op b)) ≡ bundle_words (with_op op b)
     so (Call target) = refl
     so _ = refl
 
-branch_words : (behind : ℕ) (b : Slots) → bundle_words (branch_back behind b) ≡ bundle_words b
+branch_words : (behind : ℕ) (b : PlainBundle) → bundle_words (branch_back behind b) ≡ bundle_words b
 branch_words behind b = so b.first.op
   where
     so : (op : Op) → bundle_words (branch_back behind (with_op op b)) ≡ bundle_words (with_op op b)
     so (Branch offset) = refl
     so _ = refl
 
-called_words : (start : ℕ) (tail : List Slots) → bundles_words (called start tail) ≡ bundles_words tail
+called_words : (start : ℕ) (tail : List PlainBundle) → bundles_words (called start tail) ≡ bundles_words tail
 called_words start [] = refl
 called_words start (b ∷ bs) = ap (λ n. n + bundles_words bs) (call_words start b)
 
-turned_words : (behind : ℕ) (tail : List Slots) → bundles_words (turned behind tail) ≡ bundles_words tail
+turned_words : (behind : ℕ) (tail : List PlainBundle) → bundles_words (turned behind tail) ≡ bundles_words tail
 turned_words behind [] = refl
 turned_words behind (b ∷ bs) = omega (arith, branch_words behind b, turned_words (behind + bundle_words b) bs)
 
@@ -86,12 +86,12 @@ mutual
 
 -- ---- loops
 
-pub repeat_words : (p : Part) (count : ℕ) (body : List Part) (tail : List Slots) → p ≡ Repeat count body tail
+pub repeat_words : (p : Part) (count : ℕ) (body : List Part) (tail : List PlainBundle) → p ≡ Repeat count body tail
     → part_words (plain_part p) ≡ parts_words (parts_of body) + bundles_words tail
 repeat_words p count body tail is = ap part_words (repeat_said p count body tail is)
 
 -- the body has no more words than the part
-pub body_small : (p : Part) (count : ℕ) (body inside : List Part) (tail : List Slots) (most : ℕ) → p
+pub body_small : (p : Part) (count : ℕ) (body inside : List Part) (tail : List PlainBundle) (most : ℕ) → p
     ≡ Repeat count body tail → inside ≡ body → part_words (plain_part p) ≤ most
     → parts_words (parts_of inside) ≤ most
 body_small p count body inside tail most is same small =
@@ -111,7 +111,8 @@ body_length start ps before behind is =
     )
 
 -- the bundles of a loop: those of the body, and those of the tail, whose branch counts the words that the body added
-pub iteration_bundles : (start : ℕ → ℕ) (p : Part) (count : ℕ) (body inside : List Part) (tail iteration : List Slots)
+pub iteration_bundles : (start : ℕ → ℕ) (p : Part) (count : ℕ) (body inside : List Part)
+    (tail iteration : List PlainBundle)
     (before behind : List ℕ) (words : ℕ) → p ≡ Repeat count body tail
     → inside ≡ body → iteration ≡ tail → behind ≡ before ++ codes (flat_parts start (parts_of inside)) → words
     ≡ length behind - length before
@@ -124,7 +125,7 @@ iteration_bundles start p count body inside tail iteration before behind words i
     ∙ ap (λ bs. flat_part start (repeats count (parts_of body) bs)) same_tail
     ∙ ap (flat_part start) (sym (repeat_said p count body tail is))
 
-pub added_after : (before behind : List ℕ) (us vs bs : List Slots) → behind ≡ before ++ codes us → us ++ vs ≡ bs
+pub added_after : (before behind : List ℕ) (us vs bs : List PlainBundle) → behind ≡ before ++ codes us → us ++ vs ≡ bs
     → behind ++ codes vs ≡ before ++ codes bs
 added_after before behind us vs bs added is =
     ap (λ ws. ws ++ codes vs) added ∙ append_assoc before (codes us) (codes vs)

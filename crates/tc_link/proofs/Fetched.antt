@@ -4,7 +4,7 @@ use Rattle.std.specs.Prelude.{nat_lt}
 use Rattle.std.specs.List.{All}
 use Rattle.std.proofs.lemmas.Bool.{lt-ltb, le-ltb, le-leb}
 use Rattle.std.proofs.lemmas.List.{get_or-take, get_or-drop}
-use Rattle.patmos_instr.specs.Bundles.{Slots, FitsBundle}
+use Rattle.patmos_instr.specs.Bundles.{PlainBundle, FitsBundle}
 use Rattle.patmos_code.proofs.Bundles.{bundle_back}
 use Rattle.patmos_code.proofs.Instructions.{instr_small}
 use Rattle.patmos_code.specs.Codes.{code, words, second_word, instr_code}
@@ -43,7 +43,7 @@ standing ws at first (Some second) small h =
     (2 ^ 31 + first) (2 ^ 31) (omega arith))
     ∙ ap (λ w. (2 ^ 31 + first) ∷ w ∷ []) next)
 
-pub fetched : (ws : List ℕ) (at : ℕ) (b : Slots) → FitsBundle b → StandAt ws at (code b)
+pub fetched : (ws : List ℕ) (at : ℕ) (b : PlainBundle) → FitsBundle b → StandAt ws at (code b)
     → bundle_at (slice_index ws at) (slice_index ws (at + 1)) ≡ Some b
 unfolding code
 fetched ws at b fits h =
@@ -56,7 +56,7 @@ two_or_one true first second = refl
 two_or_one false first second = refl
 
 -- its first word tells how many it has
-words_told : (ws : List ℕ) (at : ℕ) (b : Slots) → FitsBundle b → StandAt ws at (code b)
+words_told : (ws : List ℕ) (at : ℕ) (b : PlainBundle) → FitsBundle b → StandAt ws at (code b)
     → site.bundle_words (slice_index ws at) ≡ bundle_words b
 unfolding code
 words_told ws at b fits h =
@@ -65,7 +65,8 @@ words_told ws at b fits h =
     (instr_small b.first fits.first) h)) ∙ code_words b
 
 -- so it is what a core fetches there, where it ends within the function
-one_fetched : (image : Parts) (base at : ℕ) (b : Slots) → FitsBundle b → at + bundle_words b ≤ site.size_at image base
+one_fetched : (image : Parts) (base at : ℕ) (b : PlainBundle) → FitsBundle b → at + bundle_words b
+    ≤ site.size_at image base
     → StandAt image.words (base + at) (code b)
     → fetched_at image base at ≡ Found b (bundle_words b)
 unfolding fetched_at
@@ -80,7 +81,7 @@ one_fetched image base at b fits within h =
     (omega (arith, told, within)))
     ∙ ap (λ n. taken_for n found) told ∙ ap (taken_for (bundle_words b)) decoded
 
-pub all_fetched : (image : Parts) (base at : ℕ) (bs : List Slots) → All FitsBundle bs → at + bundles_words bs
+pub all_fetched : (image : Parts) (base at : ℕ) (bs : List PlainBundle) → All FitsBundle bs → at + bundles_words bs
     ≤ site.size_at image base → HasAt image.words (base + at) bs → FetchAt image base at bs
 all_fetched image base at [] fits within h = tt
 all_fetched image base at (b ∷ bs) fits within h =

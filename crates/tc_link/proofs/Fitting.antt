@@ -2,7 +2,7 @@
 use Rattle.std.proofs.Common.{◌≡◌, ℕ, suc, ◌+◌, ◌<◌, ◌≤◌, List, [], ◌∷◌, length, drop, get_or, slice_index_or, sym, ap, ◌∙◌, subst, add-one, drop-cons}
 use Rattle.std.specs.List.{All}
 use Rattle.std.proofs.lemmas.List.{drop_all}
-use Rattle.patmos_instr.specs.Bundles.{Slots, FitsBundle}
+use Rattle.patmos_instr.specs.Bundles.{PlainBundle, FitsBundle}
 use Rattle.sp_shape.specs.Parts.{no_part}
 use Rattle.sp_shape.specs.Shown.{parts_of, functions_of}
 use Rattle.sp_shape.specs.declared.parts.Part.{Part}
@@ -10,7 +10,7 @@ use Rattle.sp_shape.proofs.Functions.{function_at}
 use Rattle.tc_link.specs.Flat.{flat_parts}
 
 -- what fits of one item and of those after it fits of those from it on
-pub fit_from : {X : Type 0} (made : List X → List Slots) (xs : List X) (i : ℕ) (x : X) → i < length xs → x
+pub fit_from : {X : Type 0} (made : List X → List PlainBundle) (xs : List X) (i : ℕ) (x : X) → i < length xs → x
     ≡ get_or xs i x
     → All FitsBundle (made (x ∷ drop (i + 1) xs)) → All FitsBundle (made (drop i xs))
 fit_from made xs i x within is fits =
@@ -18,7 +18,7 @@ fit_from made xs i x within is fits =
     drop-cons xs i x within ∙ ap (λ y. y ∷ drop (suc i) xs) (sym is) ∙ ap (λ n. x ∷ drop n xs) (sym (add-one i)) in
     subst (λ ys. All FitsBundle (made ys)) (sym here) fits
 
-pub fit_past : {X : Type 0} (made : List X → List Slots) (xs : List X) (i : ℕ) → length xs ≤ i
+pub fit_past : {X : Type 0} (made : List X → List PlainBundle) (xs : List X) (i : ℕ) → length xs ≤ i
     → All FitsBundle (made []) → All FitsBundle (made (drop i xs))
 fit_past made xs i past none = subst (λ ys. All FitsBundle (made ys)) (sym (drop_all i xs past)) none
 

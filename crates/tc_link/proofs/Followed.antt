@@ -7,7 +7,7 @@ use Rattle.std.specs.Cmp.{nat_eq_equiv}
 use Rattle.std.proofs.lemmas.Map.Views.{list_any-from_Contains}
 use Rattle.std.proofs.lemmas.Bool.{and_parts, cases_lt, ltb-true, eqb-true, eqb-false}
 use Rattle.patmos_code.specs.Images.{Parts}
-use Rattle.patmos_instr.specs.Bundles.{Slots}
+use Rattle.patmos_instr.specs.Bundles.{PlainBundle}
 use Rattle.patmos_instr.specs.Instructions.{is_long}
 use Rattle.patmos_model.specs.Site.{size_at}
 use Rattle.sp_shape.specs.Formed.{part_formed, function_formed, functions_formed, is_formed}
@@ -44,7 +44,7 @@ some_words : (two : Bool) → 0 < (if two then 2 else 1)
 some_words true = omega arith
 some_words false = omega arith
 
-tail_words : (b : Slots) → 0 < bundle_words b
+tail_words : (b : PlainBundle) → 0 < bundle_words b
 tail_words b = some_words (is_long b.first.op || is_some b.second)
 
 function_some : (number : ℕ) (ps : PlainParts) → function_formed number ps ≡ true → 0 < parts_words ps

@@ -2,7 +2,7 @@
 -- flow, what flows were asked for.
 use Rattle.std.proofs.Common.{◌≡◌, ℕ, Bool, true, false, not, None, is_some, List, [], ◌∷◌, if◌then◌else◌, refl, sym, ap, ◌∙◌, true≢false}
 use Rattle.std.proofs.lemmas.Bool.{and_parts}
-use Rattle.patmos_instr.specs.Bundles.{Slots}
+use Rattle.patmos_instr.specs.Bundles.{PlainBundle}
 use Rattle.patmos_instr.specs.declared.functions.StackFunc.{StackFunc}
 use Rattle.patmos_instr.specs.declared.functions.StackFunc.TheVariants.{Sres, Sens, Sfree}
 use Rattle.patmos_instr.specs.declared.instructions.Op.{Op}
@@ -27,10 +27,10 @@ pub not_flow : (b : Bool) → not b ≡ true → b ≡ false
 not_flow true e = absurd (true≢false (sym e))
 not_flow false e = refl
 
-pub calm_first : (b : Slots) (bs : List Slots) → are_calm (b ∷ bs) ≡ true → is_flow b.first.op ≡ false
+pub calm_first : (b : PlainBundle) (bs : List PlainBundle) → are_calm (b ∷ bs) ≡ true → is_flow b.first.op ≡ false
 calm_first b bs calm = not_flow (is_flow b.first.op) (and_parts (not (is_flow b.first.op)) (are_calm bs) calm).0
 
-pub calm_rest : (b : Slots) (bs : List Slots) → are_calm (b ∷ bs) ≡ true → are_calm bs ≡ true
+pub calm_rest : (b : PlainBundle) (bs : List PlainBundle) → are_calm (b ∷ bs) ≡ true → are_calm bs ≡ true
 calm_rest b bs calm = (and_parts (not (is_flow b.first.op)) (are_calm bs) calm).1
 
 -- what is asked for is no flow
@@ -43,7 +43,7 @@ asks_none offset regs true (BranchFill target) calm = absurd (true≢false calm)
 asks_none offset regs true Return calm = absurd (true≢false calm)
 asks_none offset regs true _ calm = refl
 
-pub calm_asks : (offset : ℕ) (b : Slots) (regs : Registers) → is_flow b.first.op ≡ false
+pub calm_asks : (offset : ℕ) (b : PlainBundle) (regs : Registers) → is_flow b.first.op ≡ false
     → asked_flow offset (effect_of b regs) ≡ None
 calm_asks offset b regs calm = asks_none offset regs (holds regs b.first.guard) b.first.op calm
 
@@ -84,22 +84,24 @@ effected_ways from offset (effect.Flow flow) m calm = absurd (true≢false (ap i
 
 -- ---- bundles
 
-pub late_backs : (from : Sources) (b : Slots) (m : Run) → (late from b m).backs ≡ m.backs
+pub late_backs : (from : Sources) (b : PlainBundle) (m : Run) → (late from b m).backs ≡ m.backs
 late_backs from b m = effected_backs from (effect_of b m.regs) (behind b m)
 
-pub late_ways : (from : Sources) (b : Slots) (m : Run) → is_flow b.first.op ≡ false → (late from b m).ways ≡ m.ways
+pub late_ways : (from : Sources) (b : PlainBundle) (m : Run) → is_flow b.first.op ≡ false
+    → (late from b m).ways ≡ m.ways
 late_ways from b m calm = effected_ways from 0 (effect_of b m.regs) (behind b m) (calm_asks 0 b m.regs calm)
 
-pub done_backs : (from : Sources) (bs : List Slots) (m : Run) → (run_late from (all_done bs) m).backs ≡ m.backs
+pub done_backs : (from : Sources) (bs : List PlainBundle) (m : Run) → (run_late from (all_done bs) m).backs ≡ m.backs
 done_backs from [] m = refl
 done_backs from (b ∷ bs) m = done_backs from bs (late from b m) ∙ late_backs from b m
 
-pub done_fits : (from : Sources) (bs : List Slots) (m : Run) → FitsRegisters m.regs
+pub done_fits : (from : Sources) (bs : List PlainBundle) (m : Run) → FitsRegisters m.regs
     → FitsRegisters (run_late from (all_done bs) m).regs
 done_fits from [] m fits = fits
 done_fits from (b ∷ bs) m fits = done_fits from bs (late from b m) (late_fits from b m fits)
 
-pub calm_ways : (from : Sources) (bs : List Slots) (m : Run) → are_calm bs ≡ true → (run_late from (all_done bs) m).ways
+pub calm_ways : (from : Sources) (bs : List PlainBundle) (m : Run) → are_calm bs ≡ true
+    → (run_late from (all_done bs) m).ways
     ≡ m.ways
 calm_ways from [] m calm = refl
 calm_ways from (b ∷ bs) m calm =

@@ -4,7 +4,7 @@ use Rattle.std.specs.List.{flat_map}
 use Rattle.std.proofs.lemmas.Bool.{cases_eq}
 use Rattle.std.proofs.lemmas.List.{drop_at, take_at, get_or_at}
 use Rattle.std.proofs.lemmas.List.Concat.{flat_map-append}
-use Rattle.patmos_instr.specs.Bundles.{Slots}
+use Rattle.patmos_instr.specs.Bundles.{PlainBundle}
 use Rattle.patmos_code.specs.Codes.{code}
 use Rattle.sp_shape.specs.Parts.{PlainPart, straight, repeats, calls_to, leaves, PlainParts, no_part, part, PlainShape}
 use Rattle.sp_shape.specs.Words.{bundle_words, bundles_words, part_words, parts_words}
@@ -47,7 +47,7 @@ holds_back words xs ys at next is h = record {
 
 -- ---- bundles and parts
 
-has_in : (words : List ℕ) (at : ℕ) (bs : List Slots) → Holds words (codes bs) at → HasAt words at bs
+has_in : (words : List ℕ) (at : ℕ) (bs : List PlainBundle) → Holds words (codes bs) at → HasAt words at bs
 has_in words at [] h = tt
 has_in words at (b ∷ bs) h = (
   stand_in words (code b) at (holds_front words (code b) (codes bs) at h),
@@ -55,11 +55,11 @@ has_in words at (b ∷ bs) h = (
       (ap (λ n. at + n) (code_words b)) h),
 )
 
-has_front : (words : List ℕ) (at : ℕ) (us vs : List Slots) → HasAt words at (us ++ vs) → HasAt words at us
+has_front : (words : List ℕ) (at : ℕ) (us vs : List PlainBundle) → HasAt words at (us ++ vs) → HasAt words at us
 has_front words at [] vs h = tt
 has_front words at (b ∷ us) vs h = (h.0, has_front words (at + bundle_words b) us vs h.1)
 
-has_back : (words : List ℕ) (at : ℕ) (us vs : List Slots) → HasAt words at (us ++ vs)
+has_back : (words : List ℕ) (at : ℕ) (us vs : List PlainBundle) → HasAt words at (us ++ vs)
     → HasAt words (at + bundles_words us) vs
 has_back words at [] vs h = subst (λ n. HasAt words n vs) (omega arith) h
 has_back words at (b ∷ us) vs h =
@@ -171,7 +171,8 @@ flat_stands s k within =
     (holds_back (linked s).words (size_of s k ∷ []) (codes (flat s k)) (start_of s k - 1) (start_of s k)
     (omega (arith, starts_later s k)) (linked_holds s k within))
 
-pub bundles_stand : (s : PlainShape) (k : ℕ) → k < length s.functions → (us vs : List Slots) (b : Slots) → us
+pub bundles_stand : (s : PlainShape) (k : ℕ) → k < length s.functions → (us vs : List PlainBundle) (b : PlainBundle)
+    → us
     ++ b ∷ vs ≡ flat s k
     → StandAt (linked s).words (start_of s k + bundles_words us) (code b)
 bundles_stand s k within us vs b is =

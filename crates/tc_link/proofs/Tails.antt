@@ -3,7 +3,7 @@ use Rattle.std.proofs.Common.{◌≡◌, ℕ, ℤ, pos, negsuc, ◌-ℤ◌, zero
 use Rattle.std.proofs.lemmas.Bool.{and_parts, lt-ltb, le-leb, eqb-true}
 use Rattle.std.proofs.lemmas.List.{get_or_push}
 use Rattle.patmos_code.specs.Images.{Parts}
-use Rattle.patmos_instr.specs.Bundles.{Slots}
+use Rattle.patmos_instr.specs.Bundles.{PlainBundle}
 use Rattle.patmos_instr.specs.declared.guards.Guard.{Guard}
 use Rattle.patmos_instr.specs.declared.instructions.Op.{Op}
 use Rattle.patmos_instr.specs.declared.instructions.Op.TheVariants.{Branch, Call, Return}
@@ -59,14 +59,14 @@ return_is Return is = refl
 return_is _ is = absurd (true≢false (sym is))
 
 -- bundles without a flow get no target
-calm_branch : (words : ℕ) (b : Slots) → is_flow b.first.op ≡ false → branch_back words b ≡ b
+calm_branch : (words : ℕ) (b : PlainBundle) → is_flow b.first.op ≡ false → branch_back words b ≡ b
 calm_branch words b calm = so b.first.op calm
   where
     so : (op : Op) → is_flow op ≡ false → branch_back words (with_op op b) ≡ with_op op b
     so (Branch by) calm = absurd (true≢false calm)
     so _ calm = refl
 
-calm_turned : (words : ℕ) (bs : List Slots) → are_calm bs ≡ true → turned words bs ≡ bs
+calm_turned : (words : ℕ) (bs : List PlainBundle) → are_calm bs ≡ true → turned words bs ≡ bs
 calm_turned words [] calm = refl
 calm_turned words (b ∷ bs) calm =
     ap (λ x. x ∷ turned (words + bundle_words b) bs) (calm_branch words b (calm_first b bs calm))
@@ -98,7 +98,7 @@ place_of (returns base offset) = back base offset
 -- ---- what comes of tails
 
 -- of a loop's: another iteration, or what stands after the loop
-pub record Iterations (image : Parts) (from : Sources) (tail : List Slots) (base top next : ℕ) (rest : List Back)
+pub record Iterations (image : Parts) (from : Sources) (tail : List PlainBundle) (base top next : ℕ) (rest : List Back)
     (w : Walk) (m : Run) : Type 0 where
   pub again : (run_late from (all_done tail) m).ways ≡ m.ways ++ branches ∷ []
       → Goes image from (all_done tail) (iteration_dues (goal.Within top) tail) base top rest w (run_late from
@@ -117,7 +117,8 @@ pub record Left (image : Parts) (from : Sources) (steps : List Step) (ds : List 
   pub backs : m.backs ≡ rest
 
 -- of a call's: the function that starts at a place begins, and is to return to another
-pub record Begins (image : Parts) (from : Sources) (tail : List Slots) (start : ℕ) (home : Back) (rest : List Back)
+pub record Begins (image : Parts) (from : Sources) (tail : List PlainBundle) (start : ℕ) (home : Back)
+    (rest : List Back)
     (w : Walk) (m : Run) : Type 0 where
   pub goes : Goes image from (all_done tail ++ begins ∷ []) (way_dues (goal.Call start) tail) start 0 rest w
       (run_late from (all_done tail ++ begins ∷ []) m)
@@ -125,7 +126,8 @@ pub record Begins (image : Parts) (from : Sources) (tail : List Slots) (start : 
 
 module _ (image : Parts) (from : Sources) where
   -- a flow that is taken, and its delay slots
-  flow_waits : (b c : Slots) (bs : List Slots) (flow : FlowKind) (base at : ℕ) (rest : List Back) (m : Run) (w : Walk)
+  flow_waits : (b c : PlainBundle) (bs : List PlainBundle) (flow : FlowKind) (base at : ℕ) (rest : List Back)
+      (m : Run) (w : Walk)
       → effect_of c m.regs ≡ effect.Flow flow → erased c ≡ erased b → bundle_words c ≡ bundle_words b
       → length bs ≡ (flow_of at flow).slots → are_calm bs ≡ true → FetchAt image base at (c ∷ bs)
       → Comes image base at rest m w
@@ -151,14 +153,16 @@ module _ (image : Parts) (from : Sources) where
       (subst (λ n. Does image from (all_done bs) (way_dues (flow_of at flow).goal bs) (waiting (flow_of at flow).goal
       (length bs) base after_it (late from b m)) (last n)) there slots))
 
-  flow_ways : (b : Slots) (bs : List Slots) (e : Effect) (m : Run) → effect_of b m.regs ≡ e → are_calm bs ≡ true
+  flow_ways : (b : PlainBundle) (bs : List PlainBundle) (e : Effect) (m : Run) → effect_of b m.regs ≡ e
+      → are_calm bs ≡ true
       → (run_late from (all_done (b ∷ bs)) m).ways ≡ (effected from e (behind b m)).ways
   flow_ways b bs e m asks calm =
       calm_ways from bs (late from b m) calm ∙ ap (λ x. (effected from x (behind b m)).ways) asks
 
   -- ---- a loop's branch
 
-  branch_iterations : (b : Slots) (by : ℤ) (bs : List Slots) (base top words : ℕ) (rest : List Back) (m : Run)
+  branch_iterations : (b : PlainBundle) (by : ℤ) (bs : List PlainBundle) (base top words : ℕ)
+      (rest : List Back) (m : Run)
       (w : Walk) → are_delay_slots 2 bs ≡ true → top + words < 2 ^ 32 → top < size_at image base
       → FetchAt image base (top + words) (with_op (Branch (pos 0 -ℤ pos words)) b ∷ bs)
       → Comes image base (top + words) rest m w
@@ -237,7 +241,8 @@ module _ (image : Parts) (from : Sources) where
                 });
           }
 
-  iteration_first : (b : Slots) (bs : List Slots) (base top words : ℕ) (rest : List Back) (m : Run) (w : Walk)
+  iteration_first : (b : PlainBundle) (bs : List PlainBundle) (base top words : ℕ) (rest : List Back)
+      (m : Run) (w : Walk)
       → ((more : ℕ) (n : Run) (x : Walk) → is_iteration bs ≡ true → top + more + bundles_words bs < 2 ^ 32
       → FetchAt image base (top + more) (turned more bs) → Comes image base (top + more) rest n x
       → Iterations image from bs base top (top + more + bundles_words bs) rest x n)
@@ -291,7 +296,7 @@ module _ (image : Parts) (from : Sources) where
             ((next d).no_more (e ∙ sym (late_ways from b m calm))));
       }
 
-  pub iteration_goes : (tail : List Slots) (base top words : ℕ) (rest : List Back) (m : Run) (w : Walk)
+  pub iteration_goes : (tail : List PlainBundle) (base top words : ℕ) (rest : List Back) (m : Run) (w : Walk)
       → is_iteration tail ≡ true → top + words + bundles_words tail < 2 ^ 32 → top < size_at image base
       → FetchAt image base (top + words) (turned words tail) → Comes image base (top + words) rest m w
       → Iterations image from tail base top (top + words + bundles_words tail) rest w m
@@ -302,7 +307,8 @@ module _ (image : Parts) (from : Sources) where
 
   -- ---- calls
 
-  call_waits : (b : Slots) (target : ℕ) (bs : List Slots) (start base at : ℕ) (rest : List Back) (m : Run) (w : Walk)
+  call_waits : (b : PlainBundle) (target : ℕ) (bs : List PlainBundle) (start base at : ℕ) (rest : List Back)
+      (m : Run) (w : Walk)
       → is_always b.first.guard ≡ true → are_delay_slots 3 bs ≡ true → has_place image start 0 ≡ true
       → FetchAt image base at (with_op (Call start) b ∷ bs)
       → Comes image base at (back base (at + bundles_words (with_op (Call target) b ∷ bs)) ∷ rest) m w
@@ -360,7 +366,8 @@ module _ (image : Parts) (from : Sources) where
         returns_to = ap back_of (sym same);
       }
 
-  pub call_goes : (tail : List Slots) (start base at : ℕ) (rest : List Back) (m : Run) (w : Walk) → is_way is_call tail
+  pub call_goes : (tail : List PlainBundle) (start base at : ℕ) (rest : List Back) (m : Run) (w : Walk)
+      → is_way is_call tail
       ≡ true → has_place image start 0 ≡ true → FetchAt image base at (called start tail)
       → Comes image base at (back base (at + bundles_words tail) ∷ rest) m w
       → Begins image from tail start (back base (at + bundles_words tail)) rest w m
@@ -378,7 +385,8 @@ module _ (image : Parts) (from : Sources) where
 
   -- ---- returns
 
-  return_waits : (b : Slots) (bs : List Slots) (home : Back) (base at : ℕ) (rest : List Back) (m : Run) (w : Walk)
+  return_waits : (b : PlainBundle) (bs : List PlainBundle) (home : Back) (base at : ℕ) (rest : List Back)
+      (m : Run) (w : Walk)
       → is_always b.first.guard ≡ true → are_delay_slots 3 bs ≡ true
       → FetchAt image base at (with_op Return b ∷ bs) → Comes image base at rest m w
       → (run_late from (all_done (with_op Return b ∷ bs)) m).ways ≡ m.ways ++ returns home.base home.offset ∷ []
@@ -407,7 +415,7 @@ module _ (image : Parts) (from : Sources) where
         backs = done_backs from (it ∷ bs) m ∙ c.backs;
       }
 
-  pub return_goes : (tail : List Slots) (home : Back) (base at : ℕ) (rest : List Back) (m : Run) (w : Walk)
+  pub return_goes : (tail : List PlainBundle) (home : Back) (base at : ℕ) (rest : List Back) (m : Run) (w : Walk)
       → is_way is_return tail ≡ true → FetchAt image base at tail → Comes image base at rest m w
       → (run_late from (all_done tail) m).ways ≡ m.ways ++ returns home.base home.offset ∷ []
       → Left image from (all_done tail) (way_dues (goal.Return home.base home.offset) tail) home rest w

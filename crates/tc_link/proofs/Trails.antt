@@ -3,7 +3,7 @@ use Rattle.std.proofs.Common.{◌≡◌, ℕ, zero, suc, ◌+◌, ◌^◌, ◌<�
 use Rattle.std.specs.List.{list_any}
 use Rattle.std.proofs.lemmas.Bool.{and_parts, lt-ltb, ltb-true}
 use Rattle.patmos_code.specs.Images.{Parts}
-use Rattle.patmos_instr.specs.Bundles.{Slots}
+use Rattle.patmos_instr.specs.Bundles.{PlainBundle}
 use Rattle.patmos_model.specs.Site.{size_at, has_place}
 use Rattle.sp_shape.proofs.Whole.{late_append}
 use Rattle.sp_shape.specs.Formed.{is_call, is_iteration, is_way, part_formed, parts_formed}
@@ -24,12 +24,12 @@ use Rattle.tc_link.proofs.Walking.{FetchAt, free, Comes, Goes, does_then, elsewh
 
 -- ---- what is fetched
 
-pub fetch_front : (image : Parts) (base at : ℕ) (us vs : List Slots) → FetchAt image base at (us ++ vs)
+pub fetch_front : (image : Parts) (base at : ℕ) (us vs : List PlainBundle) → FetchAt image base at (us ++ vs)
     → FetchAt image base at us
 fetch_front image base at [] vs h = tt
 fetch_front image base at (b ∷ us) vs h = (h.0, fetch_front image base (at + bundle_words b) us vs h.1)
 
-pub fetch_back : (image : Parts) (base at : ℕ) (us vs : List Slots) (words : ℕ) → bundles_words us ≡ words
+pub fetch_back : (image : Parts) (base at : ℕ) (us vs : List PlainBundle) (words : ℕ) → bundles_words us ≡ words
     → FetchAt image base at (us ++ vs) → FetchAt image base (at + words) vs
 fetch_back image base at [] vs words is h =
     let same : at ≡ at + words = omega (arith, is) in subst (λ n. FetchAt image base n vs) same h
@@ -106,7 +106,7 @@ module _ (image : Parts) (from : Sources) where
 
   -- over what is known of the body, from its first word on
   iterations_go : (Inside : Run → Type 0) (body : List Step) (ds : List (Option Goal)) (places : List Back)
-      (tail : List Slots) (base at words : ℕ) (rest : List Back) → is_iteration tail ≡ true
+      (tail : List PlainBundle) (base at words : ℕ) (rest : List Back) → is_iteration tail ≡ true
       → at + words + bundles_words tail < 2 ^ 32 → at < size_at image base
       → FetchAt image base (at + words) (turned words tail)
       → ((later : List Back) (m : Run) (w : Walk) → Comes image base at (places ++ later) m w → Inside m
@@ -141,7 +141,7 @@ module _ (image : Parts) (from : Sources) where
       (run_late from iteration m) one.last one.comes iterations.2)
 
   some_iterations : (Inside : Run → Type 0) (body : List Step) (ds : List (Option Goal)) (places : List Back)
-      (tail : List Slots) (base at words : ℕ) (rest : List Back) → is_iteration tail ≡ true
+      (tail : List PlainBundle) (base at words : ℕ) (rest : List Back) → is_iteration tail ≡ true
       → at + words + bundles_words tail < 2 ^ 32 → at < size_at image base
       → FetchAt image base (at + words) (turned words tail)
       → ((later : List Back) (m : Run) (w : Walk) → Comes image base at (places ++ later) m w → Inside m

@@ -1,7 +1,7 @@
 -- How a core that fetches bundles goes on, bundle by bundle.
 use Rattle.std.proofs.Common.{◌≡◌, ℕ, suc, ◌+◌, ◌-◌, true, false, Option, None, Some, List, [], ◌∷◌, ◌++◌, length, refl, sym, ap, ◌∙◌, subst, arith}
 use Rattle.patmos_code.specs.Images.{Parts}
-use Rattle.patmos_instr.specs.Bundles.{Slots}
+use Rattle.patmos_instr.specs.Bundles.{PlainBundle}
 use Rattle.patmos_model.specs.Bundle.{fetched_at, asked_flow}
 use Rattle.patmos_model.specs.Flows.{counted}
 use Rattle.patmos_model.specs.declared.fetched.Fetched.TheVariants.{Found}
@@ -18,7 +18,7 @@ use Rattle.tc_link.specs.Walk.{Walk, due, due_in, flowed, IsPlaced, bundle_done,
 use Rattle.tc_link.proofs.Late.{calm_first, calm_rest, calm_asks, late_backs}
 
 -- bundles are what is fetched from an offset of a function on
-abbrev pub FetchAt : Parts → ℕ → ℕ → List Slots → Type 0
+abbrev pub FetchAt : Parts → ℕ → ℕ → List PlainBundle → Type 0
 FetchAt image base at [] = Unit {0}
 FetchAt image base at (b ∷ bs) =
     (fetched_at image base at ≡ Found b (bundle_words b)) × FetchAt image base (at + bundle_words b) bs
@@ -75,7 +75,7 @@ module _ (image : Parts) (from : Sources) where
 
   -- ---- a bundle
 
-  pub step : (b c : Slots) (steps : List Step) (d : Option Goal) (ds : List (Option Goal)) (w at e : Walk)
+  pub step : (b c : PlainBundle) (steps : List Step) (d : Option Goal) (ds : List (Option Goal)) (w at e : Walk)
       → IsPlaced image w → flowed w ≡ at → at.run ≡ w.run → erased c ≡ erased b → fetched_at image at.base at.offset
       ≡ Found c (bundle_words c)
       → IsAlone at.flow (asked_flow at.offset (effect_of c at.run.regs))
@@ -93,7 +93,7 @@ module _ (image : Parts) (from : Sources) where
       ) in
       record { placed = placed; run_is = all.0; fetches = all.1.0; due_is = all.1.1.0; rest = all.1.1.1 }
 
-  calm_done : (b : Slots) (w : Walk) → is_flow b.first.op ≡ false
+  calm_done : (b : PlainBundle) (w : Walk) → is_flow b.first.op ≡ false
       → bundle_done from b (bundle_words b) w ≡ record {
         run = late from b w.run;
         base = w.base;
@@ -112,7 +112,7 @@ module _ (image : Parts) (from : Sources) where
   -- ---- without a flow
 
   -- a bundle, and what is done after it
-  pub calm_then : (b : Slots) (steps : List Step) (ds : List (Option Goal)) (base at other offset : ℕ)
+  pub calm_then : (b : PlainBundle) (steps : List Step) (ds : List (Option Goal)) (base at other offset : ℕ)
       (rest later : List Back) (m n : Run) (w : Walk) → is_flow b.first.op ≡ false
       → fetched_at image base at ≡ Found b (bundle_words b) → Comes image base at rest m w
       → (Comes image base (at + bundle_words b) rest (late from b m) (free base (at + bundle_words b) (late from b m))
@@ -134,7 +134,7 @@ module _ (image : Parts) (from : Sources) where
         comes = g.comes;
       }
 
-  pub calm_goes : (bs : List Slots) (base at : ℕ) (rest : List Back) (m : Run) (w : Walk) → are_calm bs ≡ true
+  pub calm_goes : (bs : List PlainBundle) (base at : ℕ) (rest : List Back) (m : Run) (w : Walk) → are_calm bs ≡ true
       → FetchAt image base at bs → Comes image base at rest m w
       → Goes image from (all_done bs) (undue bs) base (at + bundles_words bs) rest w (run_late from (all_done bs) m)
   calm_goes [] base at rest m w calm h c =
@@ -150,7 +150,7 @@ module _ (image : Parts) (from : Sources) where
 
   -- ---- delay slots
 
-  slot_done : (b : Slots) (goal : Goal) (left base at : ℕ) (m : Run) → is_flow b.first.op ≡ false
+  slot_done : (b : PlainBundle) (goal : Goal) (left base at : ℕ) (m : Run) → is_flow b.first.op ≡ false
       → bundle_done from b (bundle_words b) (waiting goal (suc left) base at m)
       ≡ waiting goal left base (at + bundle_words b) (late from b m)
   slot_done b goal left base at m calm =
@@ -158,7 +158,8 @@ module _ (image : Parts) (from : Sources) where
       calm_done b (waiting goal (suc left) base at m) calm ∙ ap (λ n. waiting goal n base (at + bundle_words b)
       (late from b m)) one
 
-  pub slots_do : (bs : List Slots) (goal : Goal) (base at : ℕ) (m : Run) → are_calm bs ≡ true → FetchAt image base at bs
+  pub slots_do : (bs : List PlainBundle) (goal : Goal) (base at : ℕ) (m : Run) → are_calm bs ≡ true
+      → FetchAt image base at bs
       → Does image from (all_done bs) (way_dues goal bs) (waiting goal (length bs) base at m) (waiting goal 0 base
       (at + bundles_words bs) (run_late from (all_done bs) m))
   slots_do [] goal base at m calm h =

@@ -1,6 +1,6 @@
 -- To be believed. What takes effect after the bundles of a trail, and where it goes: no register says so.
 use Rattle.std.specs.Prelude.{ℕ, zero, suc, ◌+◌, ◌==◌, List, [], ◌∷◌, ◌++◌, Option, None, length, slice_index_or, if◌then◌else◌}
-use Rattle.patmos_instr.specs.Bundles.{Slots}
+use Rattle.patmos_instr.specs.Bundles.{PlainBundle}
 use Rattle.patmos_model.specs.declared.flow.Goal.{Goal}
 use Rattle.patmos_model.specs.declared.flow.Goal.TheVariants as goal
 use Rattle.sp_shape.specs.Formed.{is_branch}
@@ -12,17 +12,17 @@ use Rattle.tc_link.specs.Placed.{start_of}
 use Rattle.tc_link.specs.Walk.{due_in}
 
 -- bundles without a flow
-abbrev pub undue : List Slots → List (Option Goal)
+abbrev pub undue : List PlainBundle → List (Option Goal)
 undue [] = []
 undue (b ∷ bs) = None ∷ undue bs
 
 -- a flow and its delay slots: it is due after the last of them
-abbrev pub way_dues : Goal → List Slots → List (Option Goal)
+abbrev pub way_dues : Goal → List PlainBundle → List (Option Goal)
 way_dues goal [] = []
 way_dues goal (b ∷ bs) = due_in (length bs) goal ∷ way_dues goal bs
 
 -- the tail of an iteration after which comes another
-abbrev pub iteration_dues : Goal → List Slots → List (Option Goal)
+abbrev pub iteration_dues : Goal → List PlainBundle → List (Option Goal)
 iteration_dues goal [] = []
 iteration_dues goal (b ∷ bs) = if is_branch b.first.op then way_dues goal (b ∷ bs) else None ∷ iteration_dues goal bs
 

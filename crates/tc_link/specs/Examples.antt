@@ -1,6 +1,6 @@
 -- For worked rows. A bundle, shapes and walks for worked examples.
 use Rattle.std.specs.Prelude.{ℕ, List, [], ◌∷◌, Some}
-use Rattle.patmos_instr.specs.Bundles.{Slots}
+use Rattle.patmos_instr.specs.Bundles.{PlainBundle}
 use Rattle.patmos_instr.specs.declared.functions.AluFunc.TheVariants as alu
 use Rattle.patmos_instr.specs.declared.instructions.Op.TheVariants.{AluLong, FromSpecial, ToSpecial}
 use Rattle.patmos_instr.specs.declared.specials.Special.TheVariants as special
@@ -13,7 +13,7 @@ use Rattle.tc_link.specs.Backs.{backs_of}
 use Rattle.tc_link.specs.Walk.{Walk}
 
 -- r1 = r1 + 70000
-abbrev pub adds_long : Slots
+abbrev pub adds_long : PlainBundle
 adds_long = small.under small.always (AluLong alu.Add 1 1 70_000)
 
 -- a function that returns at once, and one that calls it: the latter is run, or the former
@@ -30,11 +30,11 @@ asking to slots =
 
 -- a function that keeps the place to which it returns in r2 and r3, calls the one of number 0 in a single iteration, and
 -- returns
-abbrev pub keeps_place : List Slots
+abbrev pub keeps_place : List PlainBundle
 keeps_place =
     small.under small.always (FromSpecial 2 special.Srb) ∷ small.under small.always (FromSpecial 3 special.Sro) ∷ []
 
-abbrev pub sets_place : List Slots
+abbrev pub sets_place : List PlainBundle
 sets_place =
     small.under small.always (ToSpecial writable.Srb 2) ∷ small.under small.always (ToSpecial writable.Sro 3) ∷ []
 

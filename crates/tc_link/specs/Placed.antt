@@ -2,7 +2,7 @@
 -- of their numbers. Each has its size in words before its first word.
 use Rattle.std.specs.Prelude.{ℕ, zero, suc, ◌+◌, ◌==◌, List, [], ◌∷◌, ◌++◌, length, map, slice_index_or, if◌then◌else◌}
 use Rattle.std.specs.List.{flat_map}
-use Rattle.patmos_instr.specs.Bundles.{Slots}
+use Rattle.patmos_instr.specs.Bundles.{PlainBundle}
 use Rattle.patmos_code.specs.Codes.{code}
 use Rattle.patmos_code.specs.Images.{Parts, parts}
 use Rattle.sp_shape.specs.Parts.{PlainParts, no_part, PlainShape}
@@ -53,11 +53,11 @@ abbrev pub order : PlainShape → List ℕ
 order s = s.entry ∷ others s.entry (length s.functions)
 
 -- the bundles of a function, with the targets of their flows
-abbrev pub flat : PlainShape → ℕ → List Slots
+abbrev pub flat : PlainShape → ℕ → List PlainBundle
 flat s k = flat_parts (start_of s) (function s k)
 
 -- the words of bundles, one after another
-abbrev pub codes : List Slots → List ℕ
+abbrev pub codes : List PlainBundle → List ℕ
 codes bs = flat_map code bs
 
 -- a function's size and its words

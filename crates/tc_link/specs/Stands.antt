@@ -1,6 +1,6 @@
 -- To be believed. What stands in a list of words from a place on.
 use Rattle.std.specs.Prelude.{◌≡◌, ℕ, ◌+◌, List, [], ◌∷◌, length, take, drop}
-use Rattle.patmos_instr.specs.Bundles.{Slots}
+use Rattle.patmos_instr.specs.Bundles.{PlainBundle}
 use Rattle.patmos_code.specs.Codes.{code}
 use Rattle.sp_shape.specs.Parts.{PlainPart, straight, repeats, calls_to, leaves, PlainParts, no_part, part}
 use Rattle.sp_shape.specs.Words.{bundle_words, part_words, parts_words}
@@ -11,7 +11,7 @@ abbrev pub StandAt : List ℕ → ℕ → List ℕ → Type 0
 StandAt words at piece = take (length piece) (drop at words) ≡ piece
 
 -- these bundles, one after another
-abbrev pub HasAt : List ℕ → ℕ → List Slots → Type 0
+abbrev pub HasAt : List ℕ → ℕ → List PlainBundle → Type 0
 HasAt words at [] = Unit {0}
 HasAt words at (b ∷ bs) = StandAt words at (code b) × HasAt words (at + bundle_words b) bs
 

@@ -3,7 +3,7 @@
 -- instructions). Registers and words are those of a run that is read late.
 use Rattle.std.specs.Prelude.{◌≡◌, ℕ, pos, zero, suc, ◌+◌, nat_lt, Bool, true, List, [], ◌∷◌, Option, None, Some}
 use Rattle.patmos_code.specs.Images.{Parts}
-use Rattle.patmos_instr.specs.Bundles.{Slots}
+use Rattle.patmos_instr.specs.Bundles.{PlainBundle}
 use Rattle.patmos_instr.specs.declared.instructions.Op.{Op}
 use Rattle.patmos_instr.specs.declared.instructions.Op.TheVariants.{Branch, Call}
 use Rattle.patmos_model.specs.declared.fetched.Fetched.TheVariants.{Found}
@@ -76,7 +76,7 @@ IsPlaced image w = HasPlace image w.base (due w.flow)
 -- ---- bundles
 
 -- a bundle of so many words is done
-abbrev pub bundle_done : Sources → Slots → ℕ → Walk → Walk
+abbrev pub bundle_done : Sources → PlainBundle → ℕ → Walk → Walk
 bundle_done from b words w = record {
   run = late from b w.run;
   base = w.base;
@@ -90,7 +90,7 @@ aimless (Branch offset) = Branch (pos 0)
 aimless (Call target) = Call 0
 aimless op = op
 
-abbrev pub erased : Slots → Slots
+abbrev pub erased : PlainBundle → PlainBundle
 erased b = with_op (aimless b.first.op) b
 
 -- what is asked for besides what is pending: nothing, in a delay slot
@@ -99,8 +99,8 @@ IsAlone None asked = Unit {0}
 IsAlone (Some f) asked = asked ≡ None
 
 -- what is fetched is the bundle, but for a target, and it is no flow in a delay slot
-pub record Fetches (image : Parts) (b : Slots) (w : Walk) : Type 0 where
-  pub bundle : Slots
+pub record Fetches (image : Parts) (b : PlainBundle) (w : Walk) : Type 0 where
+  pub bundle : PlainBundle
   pub words : ℕ
   pub same : erased bundle ≡ erased b
   pub found : fetched_at image w.base w.offset ≡ Found bundle words
@@ -114,7 +114,7 @@ IsCall (Some (goal.Call target)) = Unit {0}
 IsCall _ = ⊥
 
 -- a bundle is fetched and done, the flow that was due before it being none of a call; after it this is due
-pub record DoesOne (image : Parts) (from : Sources) (b : Slots) (d : Option Goal) (Rest : Walk
+pub record DoesOne (image : Parts) (from : Sources) (b : PlainBundle) (d : Option Goal) (Rest : Walk
     → Type 0) (w : Walk) : Type 0 where
   pub placed : IsPlaced image w
   pub run_is : (flowed w).run ≡ w.run
@@ -144,7 +144,8 @@ walk_from base m = record { run = m; base = base; offset = 0; flow = None }
 
 -- steps are done one after another from there on, and leave what they leave when they are read late; and a
 -- return is due to the place that was set when they began
-pub record Follows (image : Parts) (from : Sources) (steps : List Step) (ds : List (Option Goal)) (w : Walk) : Type 0 where
+pub record Follows (image : Parts) (from : Sources) (steps : List Step) (ds : List (Option Goal))
+    (w : Walk) : Type 0 where
   pub last : Walk
   pub does_so : Does image from steps ds w last
   pub run : last.run ≡ run_late from steps w.run

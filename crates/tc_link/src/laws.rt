@@ -1,7 +1,7 @@
 //! Laws of images that were made of shapes.
 ghost use Rattle.std.specs.Prelude.{◌≡◌, ℕ, ◌+◌, ◌-◌, ◌<◌, List, ◌∷◌, ◌++◌, Some, None, true, length, slice_index};
 ghost use Rattle.std.specs.List.{All, Contains};
-ghost use Rattle.patmos_instr.specs.Bundles.{Slots, FitsBundle};
+ghost use Rattle.patmos_instr.specs.Bundles.{PlainBundle, FitsBundle};
 ghost use Rattle.patmos_code.specs.Codes.{code};
 ghost use Rattle.patmos_code.specs.Decoding.{bundle_at};
 ghost use Rattle.patmos_code.specs.Images.{IsImage};
@@ -44,7 +44,7 @@ pub fn bundles_stand_in_order()
     ensures start { (s : PlainShape) (k : ℕ) → k < length s.functions → Contains (linked s).starts (start_of s k) }
     ensures size { (s : PlainShape) (k : ℕ) → k < length s.functions
         → slice_index (linked s).words (start_of s k - 1) ≡ size_of s k }
-    ensures bundles { (s : PlainShape) (k : ℕ) → k < length s.functions → (us vs : List Slots) (b : Slots)
+    ensures bundles { (s : PlainShape) (k : ℕ) → k < length s.functions → (us vs : List PlainBundle) (b : PlainBundle)
         → us ++ b ∷ vs ≡ flat s k
         → StandAt (linked s).words (start_of s k + bundles_words us) (code b) }
 {}
@@ -62,7 +62,7 @@ pub fn parts_stand()
 /// A bundle whose words stand in others is what is decoded there.
 #[tactic(auto, using(crate::proofs::Fetched::fetched))]
 pub fn standing_bundles_are_decoded()
-    ensures { (words : List ℕ) (at : ℕ) (b : Slots) → FitsBundle b → StandAt words at (code b)
+    ensures { (words : List ℕ) (at : ℕ) (b : PlainBundle) → FitsBundle b → StandAt words at (code b)
         → bundle_at (slice_index words at) (slice_index words (at + 1)) ≡ Some b }
 {}
 
@@ -76,7 +76,7 @@ pub fn linked_constants_are_words()
 /// A target changes nothing of what a bundle does to registers and words.
 #[tactic(auto, using(crate::proofs::Erased::late_same))]
 pub fn targets_change_nothing()
-    ensures { (from : Sources) (b c : Slots) (m : Run) → erased b ≡ erased c → late from b m ≡ late from c m }
+    ensures { (from : Sources) (b c : PlainBundle) (m : Run) → erased b ≡ erased c → late from b m ≡ late from c m }
 {}
 
 /// A core that is put where the entry starts, and that fetches the words of the image and obeys its flows, does the
@@ -97,11 +97,11 @@ pub fn code_follows_the_trail()
 pub fn walks_go_as_cores()
     ensures placed { (to : Goal) (x : Plain) → is_placed to x ≡ is_place x.site.image x.base to }
     ensures gone { (to : Goal) (c : Core) (w : Walk) → IsAs w c.plain → IsAs (gone to w) (model.gone to c).plain }
-    ensures offset { (from : Sources) (b : Slots) (words : ℕ) (w : Walk) (x : Plain) → IsAs w x
+    ensures offset { (from : Sources) (b : PlainBundle) (words : ℕ) (w : Walk) (x : Plain) → IsAs w x
         → (bundle_done from b words w).offset ≡ (advanced words b x).offset }
-    ensures flow { (from : Sources) (b : Slots) (words : ℕ) (w : Walk) (x : Plain) → IsAs w x
+    ensures flow { (from : Sources) (b : PlainBundle) (words : ℕ) (w : Walk) (x : Plain) → IsAs w x
         → (bundle_done from b words w).flow ≡ (advanced words b x).flow }
-    ensures check { (b : Slots) (flow : FlowKind) (w : Walk) (x : Plain) → IsAs w x
+    ensures check { (b : PlainBundle) (flow : FlowKind) (w : Walk) (x : Plain) → IsAs w x
         → IsAlone w.flow (asked_flow w.offset (effect_of b w.run.regs))
         → effect_of b x.regs ≡ effect.Flow flow → fault_of x (effect.Flow flow) ≡ None }
 {}

@@ -6,7 +6,7 @@ ghost use Rattle.c_meaning.specs.Small as small;
 ghost use Rattle.c_tree.specs.declared.tokens.Token.{Token};
 ghost use Rattle.c_tree.specs.Places.{IsProgram};
 ghost use Rattle.c_tree.specs.Reading.{IsReading};
-ghost use Rattle.c_parse.proofs.Reading.{tree_of};
+ghost use Rattle.c_parse.specs.Tree.{tree_of};
 ghost use Rattle.tc_report.specs.Line.{line};
 ghost use Rattle.tcrest.specs.declared.command.Command.{Command};
 ghost use Rattle.tcrest.specs.declared.command.TheConstants.{MOST_DIGITS};

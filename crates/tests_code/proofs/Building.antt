@@ -2,7 +2,7 @@
 use Rattle.std.proofs.Common.{◌≡◌, ℕ, ◌<◌, true, List, [], ◌∷◌, refl, ap, ◌∙◌}
 use Rattle.std.proofs.lemmas.Bool.{and_from, lt-ltb}
 use Rattle.std.specs.Prelude.{nat_lt, ◌&&◌}
-use Rattle.patmos_instr.specs.Bundles.{Slots}
+use Rattle.patmos_instr.specs.Bundles.{PlainBundle}
 use Rattle.sp_shape.specs.Formed.{is_iteration, part_formed, parts_formed, function_formed}
 use Rattle.sp_shape.specs.Parts.{leaves, part, one}
 use Rattle.sp_shape.specs.Shown.{plain_part, parts_of}
@@ -13,7 +13,7 @@ use Rattle.sp_shape.proofs.Functions.{function_then}
 use Rattle.sp_shape.proofs.Plain.{repeat_said}
 
 -- one part, so many times
-pub iterations_formed : (n count : ℕ) (body : List Part) (p : Part) (tail : List Slots) → body ≡ p ∷ [] → tail
+pub iterations_formed : (n count : ℕ) (body : List Part) (p : Part) (tail : List PlainBundle) → body ≡ p ∷ [] → tail
     ≡ small.again → 0 < count
     → part_formed n (plain_part p) ≡ true → part_formed n (plain_part (Repeat count body tail)) ≡ true
 iterations_formed n count body p tail is back some h =

@@ -5,7 +5,7 @@ use Rattle.std.proofs.Common.{◌≡◌, ℕ, zero, suc, ◌+◌, ◌-◌, ◌*�
 use Rattle.std.specs.Prelude.{max}
 use Rattle.std.specs.List.{list_all}
 use Rattle.std.proofs.lemmas.Bool.{and_parts, eqb-true}
-use Rattle.patmos_instr.specs.Bundles.{Slots}
+use Rattle.patmos_instr.specs.Bundles.{PlainBundle}
 use Rattle.patmos_instr.specs.declared.guards.Guard.{Guard}
 use Rattle.patmos_instr.specs.declared.instructions.Op.{Op}
 use Rattle.patmos_instr.specs.declared.instructions.Op.TheVariants.{AluImm, AluReg, AluLong}
@@ -74,7 +74,7 @@ few_more i j count ps more x = record {
   past = x.past;
 }
 
-few_straight : (most count : ℕ) (bs : List Slots) → 1 ≤ most → bundles_past bs ≤ 31 * count
+few_straight : (most count : ℕ) (bs : List PlainBundle) → 1 ≤ most → bundles_past bs ≤ 31 * count
     → IsFew most count (one (straight bs))
 few_straight most count bs some past =
     record { some = some; iterations = omega (arith, some); calls = omega arith; past = omega (arith, past) }
@@ -96,10 +96,10 @@ seek_past homes mask = seek_is (λ b. bundle_past b ≤ 0) homes mask (omega ari
 match_past : (homes : Homes) (mask : ℕ) → bundle_past (match_word homes mask) ≤ 0
 match_past homes mask = match_is (λ b. bundle_past b ≤ 0) homes mask (omega arith) (omega arith)
 
-test_past : (b : Slots) → is_test_bundle b ≡ true → bundle_past b ≤ 0
+test_past : (b : PlainBundle) → is_test_bundle b ≡ true → bundle_past b ≤ 0
 test_past b is = grind (arith, is)
 
-tests_past : (bs : List Slots) → AreTests bs → bundles_past bs ≤ 0
+tests_past : (bs : List PlainBundle) → AreTests bs → bundles_past bs ≤ 0
 tests_past [] tests = omega arith
 tests_past (b ∷ bs) tests =
     let both = and_parts (is_test_bundle b) (list_all is_test_bundle bs) tests in
@@ -235,7 +235,7 @@ args_few most homes (e ∷ args) rd some within =
     few_both most 0 0 (expr_code homes e rd) (args_code homes args (rd + 1)) (expr_few most homes e rd rd some
     (omega (arith, within))) (args_few most homes args (rd + 1) some (omega (arith, within)))
 
-tests_few : (most : ℕ) (bs : List Slots) → 1 ≤ most → AreTests bs → IsFew most 0 (one (straight bs))
+tests_few : (most : ℕ) (bs : List PlainBundle) → 1 ≤ most → AreTests bs → IsFew most 0 (one (straight bs))
 tests_few most bs some tests = few_straight most 0 bs some (omega (arith, tests_past bs tests))
 
 truths_few : (most : ℕ) (homes : Homes) → 1 ≤ most → TruthParts (IsFew most 0) homes (λ e. expr_iterations e ≤ most)
@@ -381,7 +381,7 @@ mutual
 -- ---- functions
 
 -- bundles with no transactions past one
-none_past : (bs : List Slots) → list_all (λ b. bundle_past b == 0) bs ≡ true → bundles_past bs ≤ 0
+none_past : (bs : List PlainBundle) → list_all (λ b. bundle_past b == 0) bs ≡ true → bundles_past bs ≤ 0
 none_past [] h = omega arith
 none_past (b ∷ bs) h =
     let both = and_parts (bundle_past b == 0) (list_all (λ b. bundle_past b == 0) bs) h in

@@ -1,7 +1,7 @@
 -- Counts of code that stands after other code.
 use Rattle.std.proofs.Common.{◌≡◌, ◌+◌, ◌≤◌, List, [], ◌∷◌, ◌++◌, arith}
 use Rattle.std.specs.Prelude.{max}
-use Rattle.patmos_instr.specs.Bundles.{Slots}
+use Rattle.patmos_instr.specs.Bundles.{PlainBundle}
 use Rattle.sp_shape.specs.Parts.{PlainParts, no_part, part, joined}
 use Rattle.weight_bounds.specs.Counts.{parts_iterations, parts_calls, bundles_past, parts_past}
 
@@ -22,6 +22,6 @@ pub joined_past : (xs ys : PlainParts) → parts_past (joined xs ys) ≡ parts_p
 joined_past no_part ys = omega arith
 joined_past (part p xs) ys = omega (arith, joined_past xs ys)
 
-pub past_append : (xs ys : List Slots) → bundles_past (xs ++ ys) ≡ bundles_past xs + bundles_past ys
+pub past_append : (xs ys : List PlainBundle) → bundles_past (xs ++ ys) ≡ bundles_past xs + bundles_past ys
 past_append [] ys = omega arith
 past_append (x ∷ xs) ys = omega (arith, past_append xs ys)

@@ -1,7 +1,7 @@
 -- The bound of parts by their words, their iterations, their calls and their stack instructions.
 use Rattle.std.proofs.Common.{◌≡◌, ℕ, zero, suc, ◌+◌, ◌-◌, ◌*◌, ◌<◌, ◌≤◌, true, false, if◌then◌else◌, List, [], ◌∷◌, ap, arith, mul-le-mul_left, mul-le-mul_right}
 use Rattle.std.specs.Prelude.{max, ◌||◌, is_some}
-use Rattle.patmos_instr.specs.Bundles.{Slots}
+use Rattle.patmos_instr.specs.Bundles.{PlainBundle}
 use Rattle.patmos_instr.specs.Instructions.{is_long}
 use Rattle.sp_shape.specs.Parts.{PlainPart, straight, repeats, calls_to, leaves, PlainParts, no_part, part}
 use Rattle.sp_shape.specs.Words.{bundle_words, bundles_words, part_words, parts_words}
@@ -63,7 +63,7 @@ module _ (each call own : ℕ) (fill g : ℕ → ℕ) (called : (k : ℕ) → k 
 
 -- ---- by words, calls and stack instructions
 
-words_some : (b : Slots) → 1 ≤ bundle_words b
+words_some : (b : PlainBundle) → 1 ≤ bundle_words b
 words_some b = elim (is_long b.first.op || is_some b.second) as (λ two. 1 ≤ (if two then 2 else 1))
     [ true ↦ omega arith | false ↦ omega arith ]
 
@@ -75,7 +75,7 @@ one_word each (suc moves) (suc words) some = past each moves (suc moves - 1) wor
     past : (each moves less words : ℕ) → less ≡ moves → 1 + each * suc moves ≤ suc words * (1 + each) + each * less
     past each moves less words is = let same = ap (λ n. each * n) is in omega (arith, same)
 
-bundles_once : (each : ℕ) (bs : List Slots) → bundles_bound each bs ≤ bundles_words bs * (1 + each) + each
+bundles_once : (each : ℕ) (bs : List PlainBundle) → bundles_bound each bs ≤ bundles_words bs * (1 + each) + each
     * bundles_past bs
 bundles_once each [] = omega arith
 bundles_once each (b ∷ bs) =

@@ -1,6 +1,6 @@
 -- Scheduled code has no more iterations, calls and transactions past one than the code that is scheduled.
 use Rattle.std.proofs.Common.{◌≡◌, ℕ, zero, suc, ◌+◌, ◌≤◌, Bool, true, false, true≢false, if◌then◌else◌, List, [], ◌∷◌, ◌++◌, sym, ap, arith, mul-le-mul_left}
-use Rattle.patmos_instr.specs.Bundles.{Slots}
+use Rattle.patmos_instr.specs.Bundles.{PlainBundle}
 use Rattle.patmos_instr.specs.Instructions.{is_second_kind}
 use Rattle.patmos_instr.specs.declared.instructions.Instr.{Instr}
 use Rattle.patmos_instr.specs.declared.instructions.Op.{Op}
@@ -32,24 +32,26 @@ past_steps = record {
   swapped = λ b x bs by. omega arith;
 }
 
-packed_past : (bs : List Slots) → bundles_past (packed bs) ≤ bundles_past bs
+packed_past : (bs : List PlainBundle) → bundles_past (packed bs) ≤ bundles_past bs
 packed_past bs = packed_steps (λ xs ys. bundles_past ys ≤ bundles_past xs) past_steps bs
 
-arranged_past : (held front back : List Slots) → bundles_past (packed (arranged held front back))
+arranged_past : (held front back : List PlainBundle) → bundles_past (packed (arranged held front back))
     ≤ bundles_past (held ++ front)
 arranged_past held front back = arranged_steps (λ xs ys. bundles_past ys ≤ bundles_past xs) past_steps held front back
 
-past_split : (b : Slots) (bs : List Slots) → bundles_past (but_last b bs) + bundle_past (last_or b bs) ≡ bundle_past b
+past_split : (b : PlainBundle) (bs : List PlainBundle) → bundles_past (but_last b bs) + bundle_past (last_or b bs)
+    ≡ bundle_past b
     + bundles_past bs
 past_split b [] = omega arith
 past_split b (c ∷ cs) = omega (arith, past_split c cs)
 
-filled_past : (b : Slots) (tail : List Slots) → bundles_past (filled b tail) ≤ bundle_past b + bundles_past tail
+filled_past : (b : PlainBundle) (tail : List PlainBundle) → bundles_past (filled b tail) ≤ bundle_past b
+    + bundles_past tail
 filled_past b [] = omega arith
 filled_past b (t ∷ []) = omega arith
 filled_past b (t ∷ slot ∷ slots) = omega (arith, past_split slot slots)
 
-one_past : (bs tail : List Slots) → bundles_past (kept_by_one bs tail) + bundles_past (way_by_one bs tail)
+one_past : (bs tail : List PlainBundle) → bundles_past (kept_by_one bs tail) + bundles_past (way_by_one bs tail)
     ≤ bundles_past bs + bundles_past tail
 one_past [] tail = omega arith
 one_past (b ∷ bs) tail =
@@ -60,7 +62,8 @@ one_past (b ∷ bs) tail =
       | false ↦ omega arith
     ]
 
-way_past : (n : ℕ) (bs tail : List Slots) → bundles_past (kept_after n bs tail) + bundles_past (way_after n bs tail)
+way_past : (n : ℕ) (bs tail : List PlainBundle) → bundles_past (kept_after n bs tail)
+    + bundles_past (way_after n bs tail)
     ≤ bundles_past bs + bundles_past tail
 way_past zero bs tail = omega arith
 way_past (suc n) bs tail = omega (arith, one_past bs tail, way_past n (kept_by_one bs tail) (way_by_one bs tail))
@@ -76,15 +79,15 @@ second_past i kind = let none = so i.op kind in omega (arith, none)
     so (Comb func pd a b) h = omega arith
     so _ h = absurd (true≢false (sym h))
 
-freed_past : (tail : List Slots) → bundles_past (freed tail) ≤ bundles_past tail
+freed_past : (tail : List PlainBundle) → bundles_past (freed tail) ≤ bundles_past tail
 freed_past = freed_as (λ xs tail. bundles_past xs ≤ bundles_past tail) (λ tail. omega arith)
     (λ flow slot slots i out. omega (arith, second_past i out.kind, past_split slot slots))
 
-slots_past : (bs tail : List Slots) → bundles_past (kept bs tail) + bundles_past (way bs tail) ≤ bundles_past bs
+slots_past : (bs tail : List PlainBundle) → bundles_past (kept bs tail) + bundles_past (way bs tail) ≤ bundles_past bs
     + bundles_past tail
 slots_past bs tail = omega (arith, way_past MOST_SLOTS bs (freed tail), freed_past tail)
 
-iteration_past : (before tail : List Slots) → bundles_past (iteration_packed before tail) ≤ bundles_past before
+iteration_past : (before tail : List PlainBundle) → bundles_past (iteration_packed before tail) ≤ bundles_past before
     + bundles_past tail
 iteration_past before tail =
     let front = before_branch tail in
@@ -100,7 +103,7 @@ iteration_past before tail =
       ap bundles_past (tail_split tail),
     )
 
-spaced_past : (bs : List Slots) → bundles_past (spaced bs) ≤ bundles_past bs
+spaced_past : (bs : List PlainBundle) → bundles_past (spaced bs) ≤ bundles_past bs
 spaced_past [] = omega arith
 spaced_past (b ∷ bs) = by (is_awaited b bs) (spaced_past bs)
   where
@@ -112,22 +115,22 @@ spaced_past (b ∷ bs) = by (is_awaited b bs) (spaced_past bs)
 -- ---- of parts
 
 -- code with no more of each than other code, and some straight code that is left over
-pub record Keeps (ps qs : PlainParts) (held left : List Slots) : Type 0 where
+pub record Keeps (ps qs : PlainParts) (held left : List PlainBundle) : Type 0 where
   pub iterations : parts_iterations qs ≤ parts_iterations ps
   pub calls : parts_calls qs ≤ parts_calls ps
   pub past : parts_past qs + bundles_past left ≤ bundles_past held + parts_past ps
 
-record Straight (bs : List Slots) (rest : PlainParts) : Type 0 where
+record Straight (bs : List PlainBundle) (rest : PlainParts) : Type 0 where
   iterations : parts_iterations (straights bs rest) ≡ parts_iterations rest
   calls : parts_calls (straights bs rest) ≡ parts_calls rest
   past : parts_past (straights bs rest) ≡ bundles_past bs + parts_past rest
 
-straights_are : (bs : List Slots) (rest : PlainParts) → Straight bs rest
+straights_are : (bs : List PlainBundle) (rest : PlainParts) → Straight bs rest
 straights_are [] rest = record { iterations = omega arith; calls = omega arith; past = omega arith }
 straights_are (b ∷ bs) rest =
     record { iterations = omega (arith, some_iterations rest); calls = omega arith; past = omega arith }
 
-merged_keeps : (held : List Slots) (ps : PlainParts) → Keeps ps (parts_merged held ps) held (left_over held ps)
+merged_keeps : (held : List PlainBundle) (ps : PlainParts) → Keeps ps (parts_merged held ps) held (left_over held ps)
 merged_keeps held no_part = record { iterations = omega arith; calls = omega arith; past = omega arith }
 merged_keeps held (part (straight bs) rest) =
     let a = merged_keeps (held ++ bs) rest in

@@ -1,6 +1,6 @@
 -- For proofs. How often code is run at most, how many calls stand in it, and its transactions past one for each bundle.
 use Rattle.std.specs.Prelude.{ℕ, ◌+◌, ◌-◌, ◌*◌, max, List, [], ◌∷◌}
-use Rattle.patmos_instr.specs.Bundles.{Slots}
+use Rattle.patmos_instr.specs.Bundles.{PlainBundle}
 use Rattle.sp_shape.specs.Parts.{PlainPart, straight, repeats, calls_to, leaves, PlainParts, no_part, part}
 use Rattle.cycle_bound.specs.Bound.{op_moves}
 
@@ -29,10 +29,10 @@ abbrev mutual
   parts_calls (part p rest) = part_calls p + parts_calls rest
 
 -- the transactions of a bundle past one: only a stack instruction has any
-abbrev pub bundle_past : Slots → ℕ
+abbrev pub bundle_past : PlainBundle → ℕ
 bundle_past b = op_moves b.first.op - 1
 
-abbrev pub bundles_past : List Slots → ℕ
+abbrev pub bundles_past : List PlainBundle → ℕ
 bundles_past [] = 0
 bundles_past (b ∷ bs) = bundle_past b + bundles_past bs
 

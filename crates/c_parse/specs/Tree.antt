@@ -1,11 +1,15 @@
--- A reader of tokens that gives the plain tree: what is still to come, and how it goes on with what that will be.
--- It goes through the tokens once. Of tokens that are no program it may read anything.
-use Rattle.std.proofs.Common.{ℕ, suc, zero, ◌-◌, ◌==◌, Bool, true, false, List, [], ◌∷◌, Option, None, Some, if◌then◌else◌}
+-- To be believed. The tree of tokens, by a reader that goes through them once: what is still to come, and how it goes on
+-- with what that will be. Of tokens that are no program it may read anything. That trees are so read is a law.
+use Rattle.std.specs.Prelude.{ℕ, suc, zero, ◌-◌, ◌==◌, Bool, true, false, List, [], ◌∷◌, Option, None, Some, if◌then◌else◌}
 use Rattle.c_tree.specs.declared.tokens.Token.{Token}
 use Rattle.c_tree.specs.declared.tokens.Token.TheVariants as token
 use Rattle.c_tree.specs.declared.tokens.Keyword.TheVariants as keyword
+use Rattle.c_tree.specs.declared.tokens.Sign.{Sign}
 use Rattle.c_tree.specs.declared.tokens.Sign.TheVariants as sign
 use Rattle.c_tree.specs.declared.expressions.UnaryOp.{UnaryOp}
+use Rattle.c_tree.specs.declared.expressions.UnaryOp.TheVariants as unary_op
+use Rattle.c_tree.specs.declared.expressions.BinaryOp.{BinaryOp}
+use Rattle.c_tree.specs.declared.expressions.BinaryOp.TheVariants as binary
 use Rattle.c_tree.specs.declared.statements.Kind.{Kind}
 use Rattle.c_tree.specs.declared.statements.Kind.TheVariants as kind
 use Rattle.c_tree.specs.declared.statements.Bound.{Bound}
@@ -13,8 +17,45 @@ use Rattle.c_tree.specs.declared.units.Const.{Const}
 use Rattle.c_tree.specs.declared.units.Length.{Length}
 use Rattle.c_tree.specs.declared.units.Parameter.{Parameter}
 use Rattle.c_tree.specs.Plain.{PlainExpr, PlainSteps, chain, unary, number, name, element, paren, no_step, step, PlainRight, value, call, PlainHead, iterations_while, iterations_for, PlainStmt, PlainBlock, PlainArms, PlainOtherwise, declared, set, set_element, called, sent, chosen, looped, broken, continued, returned, inner, no_stmt, stmt, no_arm, arm, no_else, or_else, PlainItem, global, function}
+use Rattle.c_parse.specs.Answers.{place_of}
 use Rattle.c_parse.specs.Sorts.{is_sign, is_keyword, level_at}
-use Rattle.c_parse.proofs.Tests.{prefix_of, operator_at}
+
+-- ---- operators
+
+abbrev pub prefix_of : Sign → UnaryOp
+prefix_of s = elim s as (λ _. UnaryOp) [
+  | sign.Minus ↦ unary_op.Minus
+  | sign.Tilde ↦ unary_op.Complement
+  | sign.Exclamation ↦ unary_op.Not
+  | _ ↦ unary_op.Plus
+]
+
+abbrev pub operator_of : Sign → BinaryOp
+operator_of s = elim s as (λ _. BinaryOp) [
+  | sign.And ↦ binary.And
+  | sign.BitOr ↦ binary.BitOr
+  | sign.BitXor ↦ binary.BitXor
+  | sign.BitAnd ↦ binary.BitAnd
+  | sign.Equal ↦ binary.Equal
+  | sign.NotEqual ↦ binary.NotEqual
+  | sign.Less ↦ binary.Less
+  | sign.Greater ↦ binary.Greater
+  | sign.LessEqual ↦ binary.LessEqual
+  | sign.GreaterEqual ↦ binary.GreaterEqual
+  | sign.ShiftLeft ↦ binary.ShiftLeft
+  | sign.ShiftRight ↦ binary.ShiftRight
+  | sign.Plus ↦ binary.Plus
+  | sign.Minus ↦ binary.Minus
+  | sign.Star ↦ binary.Times
+  | sign.Slash ↦ binary.Divide
+  | sign.Percent ↦ binary.Remainder
+  | _ ↦ binary.Or
+]
+
+abbrev pub operator_at : Token → BinaryOp
+operator_at t = elim t as (λ _. BinaryOp) [ token.Sign s ↦ operator_of s | _ ↦ binary.Or ]
+
+-- ---- what is still to come
 
 pub data Reader : Type 0 where
   -- any token; or, if it is such a one, on with it, and else by that reader
@@ -227,3 +268,7 @@ read_to_end r = []
 unfoldable pub read : Reader → List Token → List PlainItem
 read r [] = read_to_end r
 read r (t ∷ ts) = read (on r t) ts
+
+-- The tree that the tokens are written by. Of tokens that are no program it is empty.
+unfoldable pub tree_of : List Token → List PlainItem
+tree_of ts = elim (place_of ts) [ None ↦ read (items (λ is. is)) ts | Some at ↦ [] ]
