@@ -1,6 +1,5 @@
 -- What comes of a bundle is the same without a second instruction that does nothing; and of a flow and what stands
--- beside
--- it, one after the other.
+-- beside it, one after the other.
 use Rattle.std.proofs.Common.{◌≡◌, ℕ, zero, suc, ◌==◌, true, true≢false, if◌then◌else◌, List, [], ◌∷◌, refl, sym, ap, ◌∙◌, arith, ne_eqb}
 use Rattle.std.specs.Prelude.{◌&&◌, ◌||◌}
 use Rattle.std.specs.List.{list_all}

@@ -17,8 +17,7 @@ use Rattle.bundle_sched.proofs.Freed.{without_nop_as, nop_idle, freed_as}
 use Rattle.bundle_sched.proofs.EachStep.{AtEachStep, packed_steps, arranged_steps}
 
 -- it holds of what does nothing, of two bundles where it holds of the one that they become, and of a bundle where it
--- holds
--- of each of its instructions alone
+-- holds of each of its instructions alone
 module _ (holds : PlainBundle → Bool) (dropped : (b : PlainBundle) → is_idle b ≡ true → holds b ≡ true)
     (apart : (b : PlainBundle) (i : Instr) → b.second ≡ Some i → holds (lone b.first) ≡ true → holds (lone i) ≡ true
     → holds b ≡ true)

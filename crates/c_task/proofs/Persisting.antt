@@ -20,7 +20,7 @@ pub program_sooner : (place : Place) (items : List PlainItem) → IsValid items 
 program_sooner place items valid code =
     let u = single items in
     let runs = program_runs place items valid in
-    ends_sooner place (code_of u) (asking u runs.formed).cached (link u code) (behaves u place runs code)
+    ends_sooner place (code_of u) (asking u runs.formed).cached (link u code runs.formed) (behaves u place runs code)
     (slotted place (linked (code_of u))) place.in_range.among
 
 pub program_tighter : (place : Place) (items : List PlainItem) → IsValid items place.cores place.core

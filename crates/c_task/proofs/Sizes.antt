@@ -105,13 +105,14 @@ words_within size ws (suc n) each =
 code_length : (u : PlainUnit) → length (code_of u).functions ≡ length u.functions
 code_length u = schedule.functions_stay (emitted u) ∙ codes_length u.functions
 
-idle_slots : (u : PlainUnit) (k : ℕ) → k < length (emitted u).functions
+idle_slots : (u : PlainUnit) → tree.is_formed u ≡ true → (k : ℕ) → k < length (emitted u).functions
     → parts_idle (slice_index_or (emitted u).functions k no_part) ≡ true
-idle_slots u k below = emit.idle_as (emitted u) u refl k (omega (arith, below, codes_length u.functions))
+idle_slots u formed k below =
+    emit.idle_as (emitted u) u refl formed k (omega (arith, below, codes_length u.functions))
 
 code_formed : (u : PlainUnit) → tree.is_formed u ≡ true → shape.is_formed (code_of u) ≡ true
 code_formed u formed = schedule_formed.formed_as (emitted u) (code_of u) refl
-    (emit_formed.formed_as (emitted u) u refl formed) (idle_slots u)
+    (emit_formed.formed_as (emitted u) u refl formed) (idle_slots u formed)
 
 function_size : (u : PlainUnit) → tree.is_formed u ≡ true → (k : ℕ) → k < length u.functions → 1 + size_of (code_of u) k
     ≤ cost (slice_index_or u.functions k no_function)

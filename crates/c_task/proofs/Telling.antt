@@ -44,7 +44,8 @@ pub program_within : (place : Place) (items : List PlainItem) → IsValid items 
 program_within place items valid code =
     let u = single items in
     let runs = program_runs place items valid in
-    let most = end_within place (code_of u) (asking u runs.formed).cached (link u code) (behaves u place runs code)
+    let most = end_within place (code_of u) (asking u runs.formed).cached (link u code runs.formed)
+    (behaves u place runs code)
     (slotted place (linked (code_of u))) place.in_range.among in
     omega (arith, most, bound_is place items)
 

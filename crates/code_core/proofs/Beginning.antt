@@ -138,8 +138,7 @@ module _ (n core : ℕ) (site : Site) (input values : List ℕ) where
   -- ---- all of it
 
   -- after the bundles of a trail, the values of whose loads are those that the core's gave, the task has ended where
-  -- the walk
-  -- has, and these are its events
+  -- the walk has, and these are its events
   pub record RunsAs (steps : List Step) (ds : List (Option Goal)) (m : Run) (e : Walk) : Type 0 where
     pub ended : Ended n core e (after_bundles n core (begun site input) values (bundles_in steps))
     pub events : past n core (begun site input) values (bundles_in steps) ≡ first_event site

@@ -1,6 +1,5 @@
 -- What a core's interface stores: the words of its packets. So a core's operations are known by those of its task and
--- by
--- its packets.
+-- by its packets.
 use Rattle.std.proofs.Common.{◌≡◌, ℕ, zero, suc, ◌+◌, ◌<◌, ◌==◌, Bool, true, false, List, [], ◌∷◌, ◌++◌, length, filter, refl, sym, ap, ◌∙◌, subst, arith}
 use Rattle.std.specs.List.{AllByRecursion as Each}
 use Rattle.slot_arbiter.specs.Stamp.{stamp}

@@ -51,8 +51,7 @@ use Rattle.patmos_model.proofs.Leaves.{Leaves}
 -- ---- programs
 
 -- each load and store of the program names a word that may be named, loads give values of a kind, stores store them,
--- and
--- what the program leaves is good
+-- and what the program leaves is good
 abbrev pub Keeps : {X : Type 0} → (ℕ → Type 0) → (ℕ → Type 0) → (X → Type 0) → Prog X → Type 0
 Keeps May Kind Good (done x) = Good x
 Keeps May Kind Good (get word go_on) = May word × ((value : ℕ) → Kind value → Keeps May Kind Good (go_on value))

@@ -1,6 +1,5 @@
 -- In the tree of a valid program no private variable stands inside a private array: a name outside functions is
--- declared once,
--- and so it stands for its own slot and is read and set as what it is declared as.
+-- declared once, and so it stands for its own slot and is read and set as what it is declared as.
 use Rattle.std.proofs.Common.{◌≡◌, ◌≢◌, ℕ, ◌+◌, Bool, true, false, if◌then◌else◌, List, [], ◌∷◌, ◌++◌, length, Option, Some, None, bytes_eq, refl, ap, sym, ◌∙◌, arith, subst, true≢false}
 use Rattle.std.specs.Prelude.{IsTrue, ◌&&◌, nat_lt, is_some, codes, sum_by, ◌==◌, ◌||◌}
 use Rattle.std.specs.List.{AllByRecursion as Each}
@@ -111,8 +110,7 @@ given_last names text known private scratch cores own at (function kind its_name
 -- ---- what is known before some of a program's items
 
 -- the names before these items are kept; a name that is not among them stands for what it does among these items'
--- slots; and
--- the private words of these items are those of all
+-- slots; and the private words of these items are those of all
 record Laid (all : List PlainItem) (names : List Named) (private scratch : ℕ) (items : List PlainItem) : Type 0 where
   keeps : Keeps (Kept all) names (record { slots = layout_of all; variables = [] })
   unseen : (text : List ℕ) → found text names ≡ None → among_slots text (layout_of all)

@@ -1,6 +1,5 @@
 -- The private words that a layout gives to arrays. Where arrays are read and written at these, and variables at
--- others, no
--- private variable stands inside a private array; and the slots of variables and arrays stand so.
+-- others, no private variable stands inside a private array; and the slots of variables and arrays stand so.
 use Rattle.std.proofs.Common.{◌≡◌, ℕ, ◌+◌, ◌<◌, ◌≤◌, Bool, true, false, if◌then◌else◌, List, [], ◌∷◌, Option, Some, None, refl, ap, sym, ◌∙◌, arith, true≢false, lt-ltb, le-ltb, ltb-true, leb-true}
 use Rattle.std.specs.Prelude.{⊤, not, ◌&&◌, nat_lt, nat_le, is_some}
 use Rattle.std.specs.List.{AllByRecursion as Each, list_all}

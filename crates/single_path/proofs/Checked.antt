@@ -1,6 +1,5 @@
 -- What the actions of checked statements do with memories has a property, where it holds of what their names stand
--- for: names
--- of variables are read and set as variables there, and names of arrays as arrays.
+-- for: names of variables are read and set as variables there, and names of arrays as arrays.
 use Rattle.std.proofs.Common.{◌≡◌, ℕ, ◌+◌, Bool, true, false, List, [], ◌∷◌, ◌++◌, length, Option, Some, None, refl}
 use Rattle.std.specs.Prelude.{IsTrue, not, is_some, nat_lt}
 use Rattle.std.specs.List.{AllByRecursion as Each}

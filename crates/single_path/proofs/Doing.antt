@@ -1,6 +1,5 @@
 -- What actions do with memories, and that what is made of them does no more: a property that all uses of a program's
--- actions
--- have is one of all uses of its tree.
+-- actions have is one of all uses of its tree.
 use Rattle.std.proofs.Common.{ℕ, zero, suc, ◌==◌, Bool, true, false, if◌then◌else◌, List, [], ◌∷◌, ◌++◌, Option, None, Some, subst, sym}
 use Rattle.std.specs.Prelude.{⊤, ◌&&◌, ◌||◌}
 use Rattle.std.specs.List.{AllByRecursion as Each}

@@ -34,11 +34,9 @@ use Rattle.single_path.proofs.Words.{resolved_words, resolved_args_words, variab
 -- ---- what is counted
 
 -- For actions that stand where so many variables are open, and for the words that they are made with: their words
--- after those
--- variables, their masks but one, and their levels of iterations are together so many at most. (The one mask may be
--- that of what a
--- function gives to a target outside of the frame, for which nothing is counted.) It is so whatever is known before
--- them.
+-- after those variables, their masks but one, and their levels of iterations are together so many at most. (The one
+-- mask may be that of what a function gives to a target outside of the frame, for which nothing is counted.) It is so
+-- whatever is known before them.
 abbrev Within : ℕ → PlainActions → PartWords → ℕ → Type 0
 Within n xs p room =
     (known : Option Start) → words xs - n + (width.masks xs - 1) + stmts_levels (made known p xs) ≤ room

@@ -28,8 +28,7 @@ use Rattle.single_path.proofs.Leaving.{on_acted, stays_acted}
 use Rattle.single_path.proofs.Arming.{tested}
 
 -- after the iterations of a loop and its flag: the loop has ended, and its part goes on or the function has returned;
--- the masks
--- of the part stand
+-- the masks of the part stand
 record Iterated (n : ℕ) (p : PartWords) (s : State) (d : Done) (u : State) : Type 0 where
   same : Agrees n u d.state
   result : u.frame p.result ≡ way_value d.way

@@ -1,6 +1,5 @@
 -- The names that the checks know, beside what the same names stand for: what is found as a variable may be read and
--- set as
--- one, and arrays as arrays. Each declaration keeps this.
+-- set as one, and arrays as arrays. Each declaration keeps this.
 use Rattle.std.proofs.Common.{◌≡◌, ◌≢◌, ℕ, ◌+◌, Bool, true, false, if◌then◌else◌, List, [], ◌∷◌, ◌++◌, length, Option, Some, None, bytes_eq, refl, ap, sym, ◌∙◌, subst, append_assoc, append-nil}
 use Rattle.c_tree.specs.declared.checks.Meaning.{Meaning}
 use Rattle.c_tree.specs.declared.checks.Meaning.TheVariants as means

@@ -1,6 +1,5 @@
 -- What resolved names, operators, assignments and calls do with memories: no more than their parts, and what the slot
--- of a
--- name is read or set as.
+-- of a name is read or set as.
 use Rattle.std.proofs.Common.{ℕ, Bool, true, false, if◌then◌else◌, List, [], ◌∷◌, Option, None, Some}
 use Rattle.std.specs.Prelude.{⊤}
 use Rattle.std.specs.List.{AllByRecursion as Each}

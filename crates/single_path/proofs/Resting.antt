@@ -1,6 +1,5 @@
 -- Parts that are not to act: each of their statements but masks stands under a mask that is not 1, so that of all
--- words of
--- a frame only masks are set.
+-- words of a frame only masks are set.
 use Rattle.std.proofs.Common.{◌≡◌, ◌≢◌, ℕ, zero, suc, ◌+◌, ◌==◌, Bool, true, false, if◌then◌else◌, ◌||◌, List, Option, Some, None, refl, ap, sym, ◌∙◌, arith, eq-eqb, true≢false}
 use Rattle.std.specs.Prelude.{◌&&◌, ◌||◌}
 use Rattle.sp_tree.specs.Plain.{PlainSp, frame_word}

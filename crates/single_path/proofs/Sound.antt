@@ -1,6 +1,5 @@
 -- Sound actions: their expressions and targets name outside of frames what is there, registers suffice for their
--- expressions, and
--- their sends go to cores that can be named. The actions of statements without faults are sound.
+-- expressions, and their sends go to cores that can be named. The actions of statements without faults are sound.
 use Rattle.std.proofs.Common.{◌≡◌, ℕ, ◌+◌, ◌<◌, ◌≤◌, ◌==◌, Bool, true, false, List, [], ◌∷◌, ◌++◌, length, Option, None, Some, arith}
 use Rattle.std.proofs.lemmas.Bool.Decides.{nat_tests}
 use Rattle.std.specs.List.{AllByRecursion as Each}

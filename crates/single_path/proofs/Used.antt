@@ -1,6 +1,5 @@
 -- What the tree of a program does with memories comes from the uses of the program: what the tree reads the program
--- reads,
--- what it writes the program sets, and where it sends the program sends.
+-- reads, what it writes the program sets, and where it sends the program sends.
 use Rattle.std.proofs.Common.{◌≡◌, inl, inr, ℕ, Bool, true, false, ◌||◌, List, [], ◌∷◌, ◌++◌, length, Option, None, Some, refl, ap, sym, ◌∙◌}
 use Rattle.std.specs.List.{AllByRecursion as Each, list_any}
 use Rattle.local_store.specs.declared.map.Cell.{Cell}

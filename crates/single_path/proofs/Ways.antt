@@ -36,8 +36,7 @@ pub record Live (p : PartWords) (s : State) : Type 0 where
   pub result : s.frame p.result ≡ 0
 
 -- what a part left: the words of variables and memories, what it returns, and the masks. Its own mask may still be 1
--- where
--- it went elsewhere; of the words before the first free one it changed no other
+-- where it went elsewhere; of the words before the first free one it changed no other
 pub record Went (n : ℕ) (p : PartWords) (s : State) (d : Done) (t : State) : Type 0 where
   pub same : Agrees n t d.state
   pub result : t.frame p.result ≡ way_value d.way

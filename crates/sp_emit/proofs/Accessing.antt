@@ -22,17 +22,12 @@ use Rattle.sp_shape.specs.Formed.{is_call, is_way, is_iteration, part_formed, pa
 use Rattle.sp_shape.specs.Parts.{PlainPart, straight, repeats, calls_to, leaves, PlainParts, no_part, part}
 use Rattle.sp_shape.specs.Run.{Run, IsWhole, Sources, once, effected, run, begun}
 use Rattle.sp_shape.specs.Trail.{Step, begins, all_done, copies, part_trail, parts_trail}
-use Rattle.sp_emit.specs.Instructions.{under, always, set_number}
 use Rattle.patmos_instr.specs.declared.guards.Guard.{Guard}
-use Rattle.sp_emit.specs.Places.{read_word, set_word, fetch_word, keep_word, seek_word, match_word}
-use Rattle.sp_emit.proofs.FlagWords.{seek_is, match_is}
-use Rattle.sp_emit.proofs.WordPlaces.{read_is, set_op_is, fetch_is, keep_is}
+use Rattle.sp_emit.specs.Places.{set_word, seek_word, match_word}
 use Rattle.sp_emit.specs.Accesses.{MayAsk, cached_addresses, cached_address, Asks, AsksOnly}
+use Rattle.sp_emit.proofs.Footprints.{Footprint, is_in, AreIn, everything, seek_in, match_in, set_in}
+use Rattle.sp_shape.proofs.Lists.{all_weaker}
 use Rattle.sp_emit.proofs.Portless.{is_portless_op, is_portless, portless_start, start_append, words_left, words_right}
-use Rattle.sp_emit.proofs.Numbers.{number_op_is}
-use Rattle.sp_emit.proofs.Offsets.{AddressAre, address_are}
-use Rattle.sp_tree.specs.declared.expressions.SpArray.{SpArray}
-use Rattle.sp_emit.specs.declared.registers.TheConstants.{SPARE}
 use Rattle.sp_emit.specs.declared.stands.Homes.{Homes}
 
 -- ---- one after another
@@ -207,28 +202,24 @@ mutual
       let c = and_parts (part_all is_near p) (parts_all is_near rest) near in
       asks_append (near_part Named f number called p a.0 c.0) (near_parts Named f number called rest a.1 c.1)
 
--- ---- words of the frame
+-- ---- the class of such bundles
 
-pub near_read : (homes rd slot : ℕ) → is_near (read_word homes rd slot) ≡ true
-near_read homes rd slot = read_is (λ b. is_near b ≡ true) homes rd slot refl (λ out. refl)
+abbrev pub nearby : Footprint
+nearby = record everything { loads = false; writes = false }
 
-pub near_keep : (homes slot : ℕ) → is_near (keep_word homes slot) ≡ true
-near_keep homes slot = keep_is (λ b. is_near b ≡ true) homes slot refl (λ out. refl)
+pub is_kept : (b : PlainBundle) → is_in nearby b ≡ true → is_near b ≡ true
+is_kept b within = grind (arith, within)
 
-pub near_fetch : (homes slot : ℕ) → is_near (fetch_word homes slot) ≡ true
-near_fetch homes slot = fetch_is (λ b. is_near b ≡ true) homes slot refl (λ out. refl)
+pub all_near : (bs : List PlainBundle) → AreIn nearby bs → list_all is_near bs ≡ true
+all_near bs = all_weaker (is_in nearby) is_near is_kept bs
 
+-- the test of a mask
 pub near_seek : (homes : Homes) (mask : ℕ) → is_near (seek_word homes mask) ≡ true
-near_seek homes mask = seek_is (λ b. is_near b ≡ true) homes mask refl (near_fetch homes.first mask)
+near_seek homes mask = is_kept (seek_word homes mask) (seek_in nearby homes mask (λ out. refl))
 
 pub near_match : (homes : Homes) (mask : ℕ) → is_near (match_word homes mask) ≡ true
-near_match homes mask = match_is (λ b. is_near b ≡ true) homes mask refl refl
-
-pub near_number : (rd n : ℕ) → is_near (set_number rd n) ≡ true
-near_number rd n = number_op_is (λ op. is_near (under always op) ≡ true) rd n refl refl
-
-pub near_address : (a : SpArray) (pd rd ra : ℕ) → AddressAre (λ b. is_near b ≡ true) a pd rd ra
-near_address a pd rd ra = address_are (λ b. is_near b ≡ true) a pd rd ra refl (near_number SPARE) refl refl refl refl
+near_match homes mask = is_kept (match_word homes mask) (match_in nearby homes mask)
 
 pub near_set : (homes : ℕ) (g : Guard) (slot rs : ℕ) → is_near (set_word homes g slot rs) ≡ true
-near_set homes g slot rs = set_op_is (λ op. is_near (under g op) ≡ true) homes slot rs refl (λ out. refl)
+near_set homes g slot rs =
+    is_kept (set_word homes g slot rs) (set_in nearby homes g slot rs refl (λ out. refl))

@@ -19,6 +19,32 @@ use Rattle.sp_emit.proofs.Codes.{kept_is, brought_is, taken_is, freed_is}
 use Rattle.sp_emit.proofs.FlagWords.{cleared_all}
 use Rattle.sp_emit.specs.declared.stands.Homes.{Homes}
 
+-- those after its frame is taken
+pub kept_all : (holds : PlainBundle → Bool) (homes : Homes) (f : PlainFunction)
+    → ((r : ℕ) → holds (set_short always r 0) ≡ true)
+    → ((slot rs : ℕ) → holds (set_word homes.first always slot rs) ≡ true)
+    → holds (with_short always imm.Xor MASK MASK 1) ≡ true → ((slot p : ℕ) → flag_of homes.flags slot ≡ Some p
+    → holds (combine comb.Pxor p 0 0) ≡ true) → ((p : ℕ) → flag_of homes.flags f.mask ≡ Some p
+    → holds (compare_short cmp.Eq p MASK 0) ≡ true) → list_all holds (place_stored homes.first f) ≡ true
+    → list_all holds (words_cleared homes (slots_of f) ++ (arguments_kept homes.first f.parameters
+    ++ state_kept homes f)) ≡ true
+kept_all holds homes f clears sets masks preds tests stores =
+    all_append holds (words_cleared homes (slots_of f)) (arguments_kept homes.first f.parameters ++ state_kept homes f)
+    (cleared_all holds homes (slots_of f) preds clears)
+    (all_append holds (arguments_kept homes.first f.parameters) (state_kept homes f) (arguments f.parameters)
+    (all_append holds (mask_kept homes f) (place_kept homes.first f) (mask_there (flag_of homes.flags f.mask) refl)
+    (kept_is (λ bs. list_all holds bs ≡ true) homes.first f (λ has. stores) refl)))
+  where
+    mask_there : (o : Option ℕ) → flag_of homes.flags f.mask ≡ o → list_all holds (mask_in o homes.first f.mask) ≡ true
+    mask_there None is = and_from (holds (with_short always imm.Xor MASK MASK 1)) _ masks
+        (and_from (holds (set_word homes.first always f.mask MASK)) true (sets f.mask MASK) refl)
+    mask_there (Some p) is = and_from (holds (compare_short cmp.Eq p MASK 0)) true (tests p is) refl
+
+    arguments : (n : ℕ) → list_all holds (arguments_kept homes.first n) ≡ true
+    arguments zero = refl
+    arguments (suc n) = all_append holds (arguments_kept homes.first n) (argument_kept homes.first n) (arguments n)
+        (and_from (holds (set_word homes.first always n (FIRST + n))) true (sets n (FIRST + n)) refl)
+
 pub begin_all : (holds : PlainBundle → Bool) (homes : Homes) (f : PlainFunction)
     → holds (stack_op Sres (frame_words homes.first f)) ≡ true → ((r : ℕ) → holds (set_short always r 0) ≡ true)
     → ((slot rs : ℕ) → holds (set_word homes.first always slot rs) ≡ true)
@@ -30,21 +56,7 @@ begin_all holds homes f takes clears sets masks preds tests stores =
     all_append holds (frame_taken homes.first f) (words_cleared homes (slots_of f)
     ++ (arguments_kept homes.first f.parameters ++ state_kept homes f)) (taken_is (λ bs. list_all holds bs ≡ true)
     (frame_words homes.first f) refl (and_from _ true takes refl))
-    (all_append holds (words_cleared homes (slots_of f)) (arguments_kept homes.first f.parameters ++ state_kept homes f)
-    (cleared_all holds homes (slots_of f) preds clears)
-    (all_append holds (arguments_kept homes.first f.parameters) (state_kept homes f) (arguments f.parameters)
-    (all_append holds (mask_kept homes f) (place_kept homes.first f) (mask_there (flag_of homes.flags f.mask) refl)
-    (kept_is (λ bs. list_all holds bs ≡ true) homes.first f (λ has. stores) refl))))
-  where
-    mask_there : (o : Option ℕ) → flag_of homes.flags f.mask ≡ o → list_all holds (mask_in o homes.first f.mask) ≡ true
-    mask_there None is = and_from (holds (with_short always imm.Xor MASK MASK 1)) _ masks
-        (and_from (holds (set_word homes.first always f.mask MASK)) true (sets f.mask MASK) refl)
-    mask_there (Some p) is = and_from (holds (compare_short cmp.Eq p MASK 0)) true (tests p is) refl
-
-    arguments : (n : ℕ) → list_all holds (arguments_kept homes.first n) ≡ true
-    arguments zero = refl
-    arguments (suc n) = all_append holds (arguments_kept homes.first n) (argument_kept homes.first n) (arguments n)
-        (and_from (holds (set_word homes.first always n (FIRST + n))) true (sets n (FIRST + n)) refl)
+    (kept_all holds homes f clears sets masks preds tests stores)
 
 pub end_all : (holds : PlainBundle → Bool) (homes : ℕ) (f : PlainFunction) → list_all holds (place_loaded homes f)
     ≡ true

@@ -6,7 +6,7 @@ use Rattle.patmos_instr.specs.declared.functions.CmpFunc.TheVariants as cmp
 use Rattle.patmos_instr.specs.declared.functions.ImmFunc.TheVariants as imm
 use Rattle.patmos_instr.specs.declared.functions.StackFunc.TheVariants.{Sres, Sens, Sfree}
 use Rattle.patmos_instr.specs.declared.instructions.Op.{Op}
-use Rattle.patmos_instr.specs.declared.instructions.Op.TheVariants.{AluImm, AluReg, AluLong, Mul, Cmp, CmpImm, Comb, ToSpecial, FromSpecial, Stack, Load, Store, Branch, Call, BranchFill, Return}
+use Rattle.patmos_instr.specs.declared.instructions.Op.TheVariants.{Stack, Store, Branch, Call, BranchFill, Return}
 use Rattle.patmos_instr.specs.declared.memories.Mem.TheVariants as mem
 use Rattle.patmos_sem.specs.Effects.{asked}
 use Rattle.patmos_sem.specs.Registers.{Registers, holds}

@@ -1,14 +1,11 @@
 -- Calm bundles keep what they are to keep, whatever their guards are.
-use Rattle.std.proofs.Common.{◌≡◌, ℕ, zero, suc, ◌<◌, ◌≤◌, ◌==◌, Bool, true, false, not, ◌&&◌, ◌||◌, ◌⊎◌, inl, inr, is_none, Option, None, Some, List, [], ◌∷◌, ◌++◌, refl, sym, ◌∙◌, subst, arith, true≢false, ap, ne_eqb, if◌then◌else◌}
+use Rattle.std.proofs.Common.{◌≡◌, ℕ, zero, suc, ◌<◌, ◌≤◌, ◌==◌, Bool, true, false, not, ◌&&◌, ◌||◌, ◌⊎◌, inl, inr, is_none, List, [], ◌∷◌, ◌++◌, refl, sym, ◌∙◌, arith, true≢false, ap, ne_eqb, if◌then◌else◌}
 use Rattle.std.specs.Prelude.{nat_le, nat_lt}
 use Rattle.std.specs.List.{list_all}
 use Rattle.std.proofs.lemmas.Bool.{and_parts, and_from, or_cases, not-true, leb-true, ltb-true, eqb-true, eqb-false}
 use Rattle.patmos_instr.specs.Bundles.{PlainBundle}
-use Rattle.patmos_instr.specs.declared.guards.Guard.{Guard}
-use Rattle.patmos_instr.specs.declared.instructions.Instr.{Instr}
 use Rattle.patmos_instr.specs.declared.instructions.Op.{Op}
-use Rattle.patmos_instr.specs.declared.instructions.Op.TheVariants.{AluImm, AluReg, AluLong, Mul, Cmp, CmpImm, Comb, ToSpecial, FromSpecial, Stack, Load, Store, Branch, Call, BranchFill, Return}
-use Rattle.patmos_instr.specs.declared.memories.Mem.{Mem}
+use Rattle.patmos_instr.specs.declared.instructions.Op.TheVariants.{AluImm, AluReg, AluLong, Mul, Cmp, CmpImm, Comb, ToSpecial, FromSpecial, Stack, Load, Store, Branch}
 use Rattle.patmos_instr.specs.declared.memories.Width.TheVariants as load
 use Rattle.patmos_sem.specs.Registers.{Registers, holds}
 use Rattle.patmos_sem.specs.declared.writes.Write.TheVariants as write
@@ -19,7 +16,6 @@ use Rattle.patmos_sem.specs.declared.effects.Effect.TheVariants as effect
 use Rattle.sp_shape.specs.Parts.{PlainPart, straight, repeats, calls_to, leaves, PlainParts, no_part, part}
 use Rattle.sp_shape.specs.Trail.{Step, does, begins, all_done, copies, part_trail, parts_trail}
 use Rattle.sp_emit.specs.Holding.{held, Keeps, KeepsFrom}
-use Rattle.sp_emit.specs.Instructions.{under}
 use Rattle.sp_emit.specs.declared.registers.TheConstants.{OVERRUN, FLAGS}
 use Rattle.sp_emit.proofs.Once.{with_written, whole_written, stays_zero, kept, so_by_register}
 use Rattle.sp_emit.proofs.Untouched.{Operand, register, predicate, IsThere, Same, no_register, no_predicate, leaves_op, left_once}

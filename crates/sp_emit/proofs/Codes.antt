@@ -1,7 +1,6 @@
 -- The code of each function of a task.
-use Rattle.std.proofs.Common.{◌≡◌, ℕ, zero, suc, ◌<◌, ◌≤◌, ◌⊎◌, inl, inr, Bool, true, false, if◌then◌else◌, List, [], ◌∷◌, ◌++◌, length, slice_index_or, nat_lt, refl, sym, ap, ◌∙◌, arith, ◌+◌, ◌-◌}
-use Rattle.std.specs.Prelude.{nat_le}
-use Rattle.std.proofs.lemmas.Bool.{cases_lt, and_parts, leb-true, ltb-true}
+use Rattle.std.proofs.Common.{◌≡◌, ℕ, zero, suc, ◌<◌, ◌≤◌, ◌⊎◌, inl, inr, Bool, true, false, if◌then◌else◌, List, [], ◌∷◌, ◌++◌, length, slice_index_or, refl, sym, ap, ◌∙◌, arith, ◌+◌, ◌-◌}
+use Rattle.std.proofs.lemmas.Bool.{cases_lt}
 use Rattle.sp_tree.specs.Statements.{PlainFunction, no_function}
 use Rattle.sp_shape.specs.Parts.{PlainParts, no_part}
 use Rattle.sp_shape.specs.Trail.{Step, trails}
@@ -12,7 +11,7 @@ use Rattle.sp_emit.specs.Instructions.{stack_op}
 use Rattle.sp_emit.specs.Functions.{place_stored, place_loaded, place_kept, place_brought, function_code, places_of, functions_code, codes, words_taken, words_freed, base_slot, frame_words}
 use Rattle.sp_emit.specs.Places.{tops, top_of}
 use Rattle.sp_emit.proofs.WordPlaces.{Outside, outside}
-use Rattle.sp_tree.specs.Formed.{stmts_formed, stmts_levels, slots_of, function_formed}
+use Rattle.sp_tree.specs.Formed.{slots_of}
 use Rattle.sp_emit.specs.Flags.{flag_tops, flag_top_of}
 
 -- ---- lists that grow by one

@@ -306,7 +306,8 @@ written_words homes mask target e h =
 
 -- an instruction has the same constant under a mask as under none
 guarded_words : (homes : Homes) (mask : ℕ) (target : PlainSpTarget) (slot : ℕ) (e : PlainSp) (op : Op) → target
-    ≡ to_slot slot → Gives (value_code homes e 3 (homes.first + slot)) op → Wordy (guarded_code homes mask e op)
+    ≡ to_slot slot → Gives (homes.first + slot) (value_code homes e 3 (homes.first + slot)) op
+    → Wordy (guarded_code homes mask e op)
     → HasTargetConstants target × HasWordConstants e
 guarded_words homes mask target slot e op is gives h =
     let s = split (operands_code homes e 3)

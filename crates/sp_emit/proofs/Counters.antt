@@ -16,9 +16,12 @@ use Rattle.sp_emit.specs.Statements.{iterations_tail}
 use Rattle.sp_emit.specs.declared.registers.TheConstants.{SPARE, MORE}
 use Rattle.sp_emit.proofs.Asking.{same_ways, back_again, again, no_more, counts_down, tests_count}
 use Rattle.sp_emit.proofs.Calm.{calm_run}
-use Rattle.sp_emit.proofs.Low.{iterations_tail_low}
+use Rattle.sp_emit.specs.Flags.{no_flags}
+use Rattle.sp_emit.specs.declared.stands.Homes.{Homes}
+use Rattle.sp_emit.proofs.Low.{AreLow, all_pass, low_within}
+use Rattle.sp_emit.proofs.Walks.{tails}
 use Rattle.sp_emit.proofs.Passing.{Passes, passes_done, enough_still}
-use Rattle.sp_emit.proofs.WordPlaces.{fetch_is, fetched_some, fetched_few, fetch_leaves, keep_is, keep_leaves, behind_word, word_still, stack_before}
+use Rattle.sp_emit.proofs.WordPlaces.{fetch_is, fetched_some, fetched_few, fetch_leaves, keep_is, keep_leaves, behind_word, word_still}
 
 -- the counter's word after a body that leaves it
 still : (homes counter n : ℕ) (m t : Run) → Passes (homes + counter) (stack_word homes counter) m t
@@ -73,6 +76,13 @@ counter_counted from homes counter n m told some whole few is word =
       ways = same_ways from (counter_tested homes counter) m (tested_calm homes counter);
     }
 
+tail_low : (homes counter : ℕ) → AreLow (homes + (counter + 1)) (stack_word homes (counter + 1))
+    (iterations_tail homes counter)
+tail_low homes counter =
+    let places : Homes = record { first = homes; flags = no_flags } in
+    all_pass (homes + (counter + 1)) (stack_word homes (counter + 1)) (omega arith) (iterations_tail homes counter)
+    (tails (low_within places counter (omega arith)) counter (omega arith) refl)
+
 -- a tail, and what it leaves of the counter
 record TailCounted (homes counter n : ℕ) (m t : Run) : Type 0 where
   keeps : Passes (homes + (counter + 1)) (stack_word homes (counter + 1)) m t
@@ -87,8 +97,7 @@ tail_counted from homes counter n m told some whole few is word =
     let k = calm_run from SPARE homes (all_done (back_again MORE)) t (omega arith) c.whole refl in
     record {
       keeps = passes_done from (homes + (counter + 1)) (stack_word homes (counter + 1)) (iterations_tail homes counter)
-          m (omega (arith, few)) whole (iterations_tail_low (homes + (counter + 1)) (stack_word homes (counter + 1))
-          homes counter (omega arith) (omega arith) (stack_before homes counter (counter + 1) (omega arith)));
+          m (omega (arith, few)) whole (tail_low homes counter);
       word = word_still homes counter t (run from (all_done (back_again MORE)) t) k.high k.stack k.st ∙ c.word;
     }
 

@@ -90,8 +90,7 @@ bit_of a b p u dividend rest all x = by (cases_lt x.l u)
 -- ---- the next digit
 
 -- what is left with a bit after it is a word where the divisor is at most 2^31, so the divisor goes into it exactly
--- where
--- a word says so
+-- where a word says so
 goes_on : (b bit rest : ℕ) → bit ≤ 1 → rest < b → b ≤ 2 ^ 31 → nat_le b ((2 * rest + bit) % 2 ^ 32) ≡ true
     → (b ≤ 2 * rest + bit) × (((2 * rest + bit) % 2 ^ 32 + (2 ^ 32 - b)) % 2 ^ 32 ≡ 2 * rest + bit - b)
 goes_on b bit rest small less low on =

@@ -1,7 +1,6 @@
 -- What the code of truths leaves: in a predicate the truth of an expression.
 use Rattle.std.proofs.Common.{◌≡◌, ℕ, ◌+◌, ◌<◌, ◌==◌, Bool, true, false, true≢false, not, ◌&&◌, ◌||◌, if◌then◌else◌, nat_lt, Option, None, Some, List, [], ◌∷◌, refl, sym, ap, ap₂, ◌∙◌, subst, arith}
 use Rattle.std.specs.Prelude.{is_some, ◌/◌, ◌%◌, bit_and}
-use Rattle.std.specs.List.{list_all}
 use Rattle.std.proofs.lemmas.Nat.{and_mask}
 use Rattle.std.proofs.Math.Bool.{and-true, and-false}
 use Rattle.std.proofs.lemmas.Bool.{and_parts, eqb-true, ltb-true}
@@ -34,16 +33,16 @@ use Rattle.sp_emit.specs.Truths.{spares_second, pairs, kept_code, joining_code, 
 use Rattle.sp_tree.specs.MaskTests.{is_one}
 use Rattle.sp_emit.specs.declared.registers.TheConstants.{FIRST, TEST, SECOND}
 use Rattle.sp_emit.specs.declared.stands.Homes.{Homes}
-use Rattle.sp_emit.proofs.Calm.{is_calm, is_calm_trail, parts_calm, calm_run, parts_trail_calm, keeps_all, keeps_both}
-use Rattle.sp_emit.proofs.CalmCode.{joined_calm, lone_calm}
+use Rattle.sp_emit.proofs.Calm.{is_calm_trail, parts_calm, calm_run, parts_trail_calm, keeps_all, keeps_both}
+use Rattle.sp_emit.proofs.Footprints.{tests_in, bit_in}
+use Rattle.sp_emit.proofs.CalmCode.{joined_calm, lone_calm, calm, all_calm}
 use Rattle.sp_emit.proofs.FlagWords.{flag_range, shown_flag, shown_plain, told_few, told_other}
 use Rattle.sp_emit.proofs.Held.{short_below}
 use Rattle.sp_emit.proofs.Leaving.{both_tested, both_told, did_compare, did_compare_short, did_combine, not_lt}
 use Rattle.sp_emit.proofs.Needs.{covers, first_fits, second_fits}
-use Rattle.sp_shape.proofs.Lists.{all_weaker}
 use Rattle.sp_emit.proofs.Once.{with_written, so_got, so_kept}
 use Rattle.sp_emit.proofs.Seconds.{test_spared}
-use Rattle.sp_emit.proofs.TruthCode.{no_joins, condition_tests, unjoined_is, is_test_bundle, AreTests, TruthParts, truth_is, of_tests, seeks_word, Fitting, first_fitting, second_fitting}
+use Rattle.sp_emit.proofs.TruthCode.{no_joins, condition_tests, unjoined_is, AreTests, TruthParts, truth_is, of_tests, seeks_word, Fitting, first_fitting, second_fitting}
 use Rattle.sp_shape.proofs.Whole.{once_whole}
 use Rattle.sp_emit.proofs.WordPlaces.{fetch_is, fetch_leaves, fetch_preds, word_still}
 use Rattle.sp_emit.proofs.Values.{first_ready, left_anywhere, operand_ready, operands_named, second_ready, one_stands, second_stands, first_stands, operand_left, worked, worked_keeps, operands_calm, fits_of, run_joined, run_lone}
@@ -262,10 +261,8 @@ stood {homes} {slots} {s} {m} (between_two op a b) p shows whole named is = by (
 calm_tests : (homes : Homes) (bs : List PlainBundle) → AreTests bs → parts_calm FIRST homes.first (one (straight bs))
     ≡ true
 calm_tests homes bs tests =
-    lone_calm FIRST homes.first bs (all_weaker is_test_bundle (is_calm FIRST homes.first) (test_calm homes) bs tests)
-  where
-    test_calm : (homes : Homes) (b : PlainBundle) → is_test_bundle b ≡ true → is_calm FIRST homes.first b ≡ true
-    test_calm homes b test = grind (arith, test)
+    lone_calm FIRST homes.first bs (all_calm FIRST homes.first (omega arith) bs
+    (tests_in (calm FIRST homes.first (omega arith)) bs tests))
 
 bit_calm : (homes : Homes) (slot : ℕ) → is_calm_trail FIRST homes.first (all_done (bit_sought homes.first slot)) ≡ true
 bit_calm homes slot =
@@ -282,8 +279,8 @@ calm_parts homes = record {
   operands = λ e h. operands_calm homes FIRST e FIRST (omega arith) h.0 h.1;
   tests = calm_tests homes;
   bits = λ slot h. lone_calm FIRST homes.first (bit_sought homes.first slot)
-      (fetch_is (λ b. list_all (is_calm FIRST homes.first) (b ∷ compare_short cmp.Btest SECOND (fetched_at homes.first
-      slot) 0 ∷ []) ≡ true) homes.first slot refl (λ out. refl));
+      (all_calm FIRST homes.first (omega arith) (bit_sought homes.first slot)
+      (bit_in (calm FIRST homes.first (omega arith)) homes.first slot (λ out. refl)));
 }
 
 tests_calm : (homes : Homes) (e : PlainSp) → Fitting homes e → parts_calm FIRST homes.first (tested_code homes e) ≡ true

@@ -37,14 +37,15 @@ use Rattle.sp_emit.proofs.Frames.{put_same, put_other}
 use Rattle.sp_emit.specs.Chains.{stmts_call}
 use Rattle.sp_emit.proofs.Formed as formed
 use Rattle.sp_emit.proofs.Homing.{SameBack, back_then, keeps_place, done_back, parts_back}
-use Rattle.sp_emit.proofs.Quiet.{each_so}
-use Rattle.sp_emit.proofs.Steady.{is_firm, body_firm, place_firm}
+use Rattle.sp_emit.proofs.EachBundle.{each_so}
+use Rattle.sp_emit.proofs.Windows.{IsHomed, ArePlaced, InWindow, own_window, body_placed}
+use Rattle.sp_emit.proofs.Steady.{is_firm, place_firm, past_all, body_firm}
 use Rattle.sp_emit.proofs.Uncalled.{stmts_uncalled}
 use Rattle.sp_emit.proofs.Leaving.{slot_leaves}
-use Rattle.sp_emit.proofs.LoopIterations.{Callees, iterations_joined, stmts_iteration}
+use Rattle.sp_emit.proofs.LoopIterations.{Callees, iterations_joined, body_iterations}
 use Rattle.sp_emit.proofs.Once.{did_write, got}
-use Rattle.sp_emit.proofs.Passed.{taken, cleared, entered, worked, enters_frame, works_in_frame, all_pass, InWindow, own_window}
-use Rattle.sp_emit.proofs.BegunBody.{begun_formed, begun_levels, begun_least, begun_uncalled, begun_counts}
+use Rattle.sp_emit.proofs.Passed.{taken, cleared, entered, worked, enters_frame, works_in_frame, all_pass}
+use Rattle.sp_emit.proofs.BegunBody.{begun_uncalled, begun_counts}
 use Rattle.sp_emit.proofs.Passing.{AllPass, passes_done}
 use Rattle.sp_emit.proofs.Returning.{did_return}
 use Rattle.sp_emit.proofs.Serves.{begin_run}
@@ -217,11 +218,11 @@ brings_home homes from f back m has told few_base few_offset whole h =
 
 -- ---- or it stays set, where no function is called
 
-worked_back : (homes : Homes) (from : Sources) (code : ℕ → List Step) (fs : List PlainFunction) (number : ℕ)
-    (f : PlainFunction) (m : Run) → stmts_call f.body ≡ false → FunctionParts fs number f
+worked_back : {homes : Homes} {tops : List ℕ} (from : Sources) (code : ℕ → List Step) (fs : List PlainFunction)
+    (number : ℕ) (f : PlainFunction) (m : Run) → stmts_call f.body ≡ false → InWindow homes tops fs number f
     → SameBack m (worked homes from code f m)
 unfolding worked entered cleared taken
-worked_back homes from code fs number f m none p =
+worked_back {homes} {tops} from code fs number f m none w =
     let body = body_code homes f in
     let t1 = run from (all_done (arguments_kept homes.first f.parameters))
     (run from (all_done (words_cleared homes (slots_of f))) (run from (all_done (frame_taken homes.first f)) m)) in
@@ -230,10 +231,17 @@ worked_back homes from code fs number f m none p =
     (run from (all_done (mask_kept homes f ++ (if b then place_stored homes.first f else []))) t1)) (sym none)
     (subst (SameBack m) (sym (state_run homes from f [] t1)) (masked_back homes from f m)) in
     let begun = begun_body homes.flags f in
-    back_then entered_back (parts_back from code body (formed.stmts_formed homes fs 0 (slots_of f)
-    (frame_words homes.first f) (first_counter f) begun (stmts_uncalled fs number (slots_of f) begun
-    (begun_uncalled homes.flags f none) (begun_formed homes.flags fs number (slots_of f) f p.body)))
-    (each_so (is_firm 8) keeps_place (place_firm 8) body (body_firm homes f))
+    let p = body_placed w in
+    let alone : ArePlaced tops homes fs 0 (slots_of f) (first_counter f) begun = record {
+      levels = p.levels;
+      formed = stmts_uncalled fs number (slots_of f) begun (begun_uncalled homes.flags f none) p.formed;
+      least = p.least;
+    } in
+    let homed : IsHomed homes fs 0 (slots_of f) =
+    record { earlier = refl; some = w.homed.some; most = w.homed.most; own = w.homed.own } in
+    back_then entered_back (parts_back from code body (formed.stmts_formed tops homes fs 0 (slots_of f)
+    (frame_words homes.first f) (first_counter f) begun homed alone)
+    (each_so (is_firm 8) keeps_place (place_firm 8) body (body_firm 8 (omega arith) w (past_all homes)))
     (run from (all_done (state_kept homes f)) t1))
 
 stays_home : (homes : Homes) (from : Sources) (f : PlainFunction) (m w : Run) → stmts_call f.body ≡ false → IsWhole w
@@ -269,7 +277,7 @@ comes_home homes from code tops fs number low f m told window others whole enoug
     (worked_home homes from code tops fs number low f m has window others whole enough)
 comes_home homes from code tops fs number low f m told window others whole enough false none =
     stays_home homes from f m (worked homes from code f m) none (works_in_frame homes from code tops fs number low f m
-    window others whole enough).whole (worked_back homes from code fs number f m none window.parts)
+    window others whole enough).whole (worked_back from code fs number f m none window)
 
 function_iterations : (homes : Homes) (from : Sources) (code : ℕ → List Step) (Called : ℕ → Run → Type 0)
     (tops : List ℕ) (fs : List PlainFunction) (number low : ℕ) (f : PlainFunction) → from.stack ≡ true
@@ -283,20 +291,14 @@ function_iterations homes from code Called tops fs number low f told window coun
     let few = words_few homes.first f (omega (arith, p.room)) in
     let body = body_code homes f in
     let w = worked homes from code f m in
-    let levels = begun_levels homes.flags f in
-    let fewer = begun_least homes.flags tops f in
     let home = comes_home homes from code tops fs number low f m told window callees.passing whole enough
     (stmts_call f.body) refl in (
       tt,
       subst (PartsIteration (run from) code Called (back_of m) (joined body (function_rest homes.first f)))
           (sym (begin_entered homes from f m))
           (iterations_joined from code Called (back_of m) body (function_rest homes.first f) (entered homes from f m)
-          (stmts_iteration homes from code Called (back_of m) tops fs number (slots_of f) (frame_words homes.first f)
-          (first_counter f) low told callees window.homed (omega (arith, p.frame, p.room))
-          (begun_body homes.flags f) (omega (arith, p.room, p.mask, levels))
-          (begun_formed homes.flags fs number (slots_of f) f p.body) (begun_counts homes.flags f counts)
-          (omega (arith, fewer, window.least)) (entered homes from f m) e.whole
-          (omega (arith, e.st, few, enough, p.frame)))
+          (body_iterations window from code Called (back_of m) low told callees (begun_counts homes.flags f counts)
+          (entered homes from f m) e.whole (omega (arith, e.st, few, enough, p.frame)))
           (tt, (asks_home from (back_of m) (run from (all_done (function_end homes.first f)) w) home, tt))),
     )
 

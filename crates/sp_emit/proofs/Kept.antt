@@ -13,51 +13,48 @@ use Rattle.sp_emit.specs.Chains.{takes_at_most}
 use Rattle.sp_emit.specs.Functions.{function_code, places_of, emitted}
 use Rattle.sp_emit.proofs.Codes.{codes_at}
 use Rattle.sp_emit.proofs.Alone.{function_alone}
+use Rattle.sp_emit.specs.Places.{tops}
+use Rattle.sp_emit.proofs.Windows.{InWindow, own_window}
 use Rattle.sp_emit.proofs.Idle.{function_idle}
 use Rattle.sp_emit.proofs.Room.{function_room}
 use Rattle.sp_emit.proofs.Steady.{function_steady}
 use Rattle.sp_emit.proofs.Taking.{function_takes}
-use Rattle.sp_emit.specs.Fits.{FunctionFits}
-use Rattle.sp_emit.proofs.Fitting.{frame_least}
 
 code_at : (s : PlainShape) (u : PlainUnit) → s ≡ emitted u → (k : ℕ) → k < length u.functions
     → slice_index_or s.functions k no_part ≡ function_code (places_of u.functions k) (slice_index_or
     u.functions k no_function)
 code_at s u told k below = ap (λ x. slice_index_or x.functions k no_part) told ∙ codes_at u.functions k below
 
-pub idle_as : (s : PlainShape) (u : PlainUnit) → s ≡ emitted u → (k : ℕ) → k < length u.functions
-    → parts_idle (slice_index_or s.functions k no_part) ≡ true
-idle_as s u told k below = ap parts_idle (code_at s u told k below)
-    ∙ function_idle (places_of u.functions k) (slice_index_or u.functions k no_function)
+-- each function in its window
+window : (u : PlainUnit) → tree.is_formed u ≡ true → (k : ℕ) → k < length u.functions
+    → InWindow (places_of u.functions k) (tops u.functions k) u.functions k (slice_index_or u.functions k no_function)
+window u h k below =
+    let a = and_parts (nat_le (length u.functions) 512) _ h in
+    let b = and_parts (tree.functions_formed u.functions (length u.functions)) _ a.1 in
+    own_window u.functions k (earlier_ones u.functions k (length u.functions) (omega (arith, below)) b.0)
+    (earlier_one u.functions k (length u.functions) below b.0)
 
-pub alone_as : (s : PlainShape) (u : PlainUnit) → s ≡ emitted u → (k : ℕ) → k < length u.functions
-    → parts_all (λ b. is_none b.second) (slice_index_or s.functions k no_part) ≡ true
-alone_as s u told k below = ap (parts_all (λ b. is_none b.second)) (code_at s u told k below)
-    ∙ function_alone (places_of u.functions k) (slice_index_or u.functions k no_function)
+pub idle_as : (s : PlainShape) (u : PlainUnit) → s ≡ emitted u → tree.is_formed u ≡ true → (k : ℕ)
+    → k < length u.functions → parts_idle (slice_index_or s.functions k no_part) ≡ true
+idle_as s u told h k below = ap parts_idle (code_at s u told k below) ∙ function_idle (window u h k below)
 
-pub steady_as : (s : PlainShape) (u : PlainUnit) → s ≡ emitted u → (k : ℕ) → k < length u.functions
-    → parts_all is_steady (slice_index_or s.functions k no_part) ≡ true
-steady_as s u told k below = ap (parts_all is_steady) (code_at s u told k below)
-    ∙ function_steady (places_of u.functions k) (slice_index_or u.functions k no_function)
+pub alone_as : (s : PlainShape) (u : PlainUnit) → s ≡ emitted u → tree.is_formed u ≡ true → (k : ℕ)
+    → k < length u.functions → parts_all (λ b. is_none b.second) (slice_index_or s.functions k no_part) ≡ true
+alone_as s u told h k below =
+    ap (parts_all (λ b. is_none b.second)) (code_at s u told k below) ∙ function_alone (window u h k below)
+
+pub steady_as : (s : PlainShape) (u : PlainUnit) → s ≡ emitted u → tree.is_formed u ≡ true → (k : ℕ)
+    → k < length u.functions → parts_all is_steady (slice_index_or s.functions k no_part) ≡ true
+steady_as s u told h k below =
+    ap (parts_all is_steady) (code_at s u told k below) ∙ function_steady (window u h k below)
 
 pub frames_as : (s : PlainShape) (u : PlainUnit) → s ≡ emitted u → tree.is_formed u ≡ true → (k : ℕ)
     → k < length u.functions
     → parts_all (takes_at_most (slice_index_or u.functions k no_function).frame) (slice_index_or s.functions k no_part)
     ≡ true
 frames_as s u told h k below =
-    let f = slice_index_or u.functions k no_function in
-    let a = and_parts (nat_le (length u.functions) 512) _ h in
-    let b = and_parts (tree.functions_formed u.functions (length u.functions)) _ a.1 in
-    let own = earlier_one u.functions k (length u.functions) below b.0 in
-    let fits : FunctionFits f = record {
-      functions = u.functions;
-      number = k;
-      earlier = earlier_ones u.functions k
-          (length u.functions) (omega (arith, below)) b.0;
-      formed = own;
-    } in
-    ap (parts_all (takes_at_most f.frame)) (code_at s u told k below) ∙ function_takes (places_of u.functions k) f
-    (omega (arith, frame_least fits))
+    ap (parts_all (takes_at_most (slice_index_or u.functions k no_function).frame)) (code_at s u told k below)
+    ∙ function_takes (window u h k below)
 
 pub room_as : (s : PlainShape) (u : PlainUnit) → s ≡ emitted u → tree.is_formed u ≡ true → (k : ℕ)
     → k < length u.functions

@@ -20,6 +20,7 @@ pub mod Digits
 pub mod Dividing
 pub mod ByConstants
 pub mod Elements
+pub mod EachBundle
 pub mod Entering
 pub mod Factors
 pub mod Fitting
@@ -35,6 +36,7 @@ pub mod Homing
 pub mod Held
 pub mod Idle
 pub mod Kept
+pub mod Footprints
 pub mod Lasts
 pub mod Least
 pub mod Leaving
@@ -57,7 +59,6 @@ pub mod Offsets
 pub mod Pointing
 pub mod Products
 pub mod Pushed
-pub mod Quiet
 pub mod Quotients
 pub mod Reaching
 pub mod Returning
@@ -80,6 +81,8 @@ pub mod Uncalled
 pub mod Untouched
 pub mod ValueAsks
 pub mod Values
+pub mod Walks
+pub mod Windows
 pub mod WithinFrames
 pub mod WithinStack
 pub mod Words

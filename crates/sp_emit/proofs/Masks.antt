@@ -305,14 +305,16 @@ slot_where homes slots count p slot rs v s r false plain some most named fits wo
 -- so is the last instruction of a value, which sets the register of the word
 guarded_done : (homes : Homes) (f : ℕ → List Step) (slots count p slot : ℕ) (e : PlainSp) (op : Op) (s : State)
     (m u : Run) (on : Bool) → flag_of homes.flags slot ≡ None → IsReady homes slots e FIRST s m → slot < slots
-    → slots ≤ count → homes.first + slot < OVERRUN → Gives (value_code homes e FIRST (homes.first + slot)) op
+    → slots ≤ count → homes.first + slot < OVERRUN → Gives (homes.first + slot) (value_code homes e FIRST
+    (homes.first + slot)) op
     → Keeps SPARE homes.first (worked homes f e FIRST m) u → so p u ≡ on → Follows homes slots s m
     → Done homes slots count (if on then with_slot slot (worth e s) s else s) m (once by_words
     (under (where_so p) op) u)
 guarded_done homes f slots count p slot e op s m u true plain r named fits lt gives keeps on x =
     let some : 1 ≤ homes.first = omega (arith, r.free) in
     let t = run by_words (parts_trail f (value_code homes e FIRST (homes.first + slot))) u in
-    let steps : once by_words (under (where_so p) op) u ≡ t = alu_on by_words (where_so p) op u gives.alu keeps.whole on
+    let steps : once by_words (under (where_so p) op) u ≡ t =
+    alu_on by_words (homes.first + slot) (where_so p) op u gives.alu keeps.whole on
     ∙ ap (λ ps. run by_words (parts_trail f ps) u) (sym gives.is) in
     subst (Done homes slots count (with_slot slot (worth e s) s) m) (sym steps)
     (straight_done homes slots count slot (worth e s) s m u t plain some (omega (arith, named, fits)) lt
@@ -338,7 +340,8 @@ slot_done homes f frame counter slots mask slot e s m most fits masked named for
     r : IsReady homes slots e FIRST s m
     r = ready homes slots FIRST e s m (omega arith) (omega arith) free most formed constants x
 
-    guarded : (op : Op) → homes.first + slot < OVERRUN → Gives (value_code homes e FIRST (homes.first + slot)) op
+    guarded : (op : Op) → homes.first + slot < OVERRUN → Gives (homes.first + slot) (value_code homes e FIRST
+        (homes.first + slot)) op
         → Done homes slots (counter + 1) (where_on mask (write_done (to_slot slot) e) s) m (run by_words
         (parts_trail f (guarded_code homes mask e op)) m)
     guarded op lt gives =

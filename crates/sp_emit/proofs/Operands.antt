@@ -1,13 +1,12 @@
 -- What holds of the code of values and of parts after one another holds of that of operands: where an operand is a
--- word of
--- the frame in a register, it has none.
-use Rattle.std.proofs.Common.{◌≡◌, ℕ, ◌+◌, ◌<◌, Bool, true, false, if◌then◌else◌, nat_lt, List, [], ◌∷◌, Option, None, Some, refl, sym, ap, ◌∙◌, subst, arith}
+-- word of the frame in a register, it has none.
+use Rattle.std.proofs.Common.{◌≡◌, ℕ, ◌+◌, ◌<◌, Bool, true, false, if◌then◌else◌, nat_lt, List, [], ◌∷◌, Option, None, Some, refl, sym, ap, ◌∙◌, subst, arith, ◌≤◌}
 use Rattle.std.specs.Prelude.{is_none}
 use Rattle.std.proofs.lemmas.Bool.{and_parts, ltb-true}
 use Rattle.patmos_instr.specs.Bundles.{PlainBundle}
 use Rattle.sp_tree.specs.Formed.{names_words, array_formed}
 use Rattle.sp_tree.specs.Need.{need}
-use Rattle.sp_tree.specs.Plain.{PlainSp, constant, frame_word, cell_word, array_word, before_one, between_two}
+use Rattle.sp_tree.specs.Plain.{PlainSp, frame_word, array_word, before_one, between_two}
 use Rattle.sp_tree.specs.declared.expressions.SpArray.{SpArray}
 use Rattle.sp_tree.specs.declared.operators.SpBinary.{SpBinary}
 use Rattle.sp_tree.specs.declared.operators.SpUnary.{SpUnary}
@@ -19,7 +18,7 @@ use Rattle.sp_emit.specs.Places.{flag_of, in_register, read_word}
 use Rattle.sp_emit.specs.Statements.{slot_set, mask_by, mask_code}
 use Rattle.sp_emit.specs.Truths.{flag_code}
 use Rattle.sp_emit.specs.declared.registers.TheConstants.{FIRST, OVERRUN}
-use Rattle.sp_emit.proofs.Needs.{index_named, operand_fits, first_fits, second_fits, first_fits_after, second_fits_after}
+use Rattle.sp_emit.proofs.Needs.{covers, lesser, greater, index_named, operand_fits, first_fits, second_fits, first_fits_after, second_fits_after}
 use Rattle.sp_emit.specs.declared.stands.Homes.{Homes}
 
 pub word_below : (homes : Homes) (slot : ℕ) → is_home homes (frame_word slot) ≡ true → homes.first + slot < OVERRUN
@@ -73,16 +72,6 @@ pub record Handed (Holds : PlainSp → ℕ → Type 0) : Type 0 where
   pub second_behind : (op : SpBinary) (a b : PlainSp) (rd : ℕ) → nat_lt (need a) (need b) ≡ false
       → Holds (between_two op a b) rd → Holds b (rd + 1)
 
-pub nothing_handed : Handed (λ e rd. Unit {0})
-nothing_handed = record {
-  index = λ array index rd h. h;
-  operand = λ op of rd h. h;
-  first = λ op a b rd h. h;
-  second = λ op a b rd h. h;
-  first_behind = λ op a b rd less h. h;
-  second_behind = λ op a b rd more h. h;
-}
-
 pub names_handed : (slots : ℕ) → Handed (λ e rd. names_words slots e ≡ true)
 names_handed slots = record {
   index = λ array index rd h. (and_parts (array_formed array) (names_words slots index) h).1;
@@ -101,6 +90,17 @@ fits_handed = record {
   second = λ op a b rd h. second_fits op a b h;
   first_behind = λ op a b rd less h. first_fits_after op a b h less;
   second_behind = λ op a b rd more h. second_fits_after op a b h more;
+}
+
+-- registers suffice before one
+pub needs_handed : (limit : ℕ) → Handed (λ e rd. rd + need e ≤ limit)
+needs_handed limit = record {
+  index = λ array index rd h. h;
+  operand = λ op of rd h. h;
+  first = λ op a b rd h. omega (arith, h, (covers (nat_lt (need a) (need b)) (need a) (need b)).0);
+  second = λ op a b rd h. omega (arith, h, (covers (nat_lt (need a) (need b)) (need a) (need b)).1);
+  first_behind = λ op a b rd less h. omega (arith, h, lesser (need a) (need b) less);
+  second_behind = λ op a b rd more h. omega (arith, h, greater (need a) (need b) more);
 }
 
 pub both_handed : {A B : PlainSp → ℕ → Type 0} → Handed A → Handed B → Handed (λ e rd. A e rd × B e rd)
@@ -145,19 +145,6 @@ operands_are P homes Holds none both handed value (between_two op a b) rd h =
     (operand_code homes b (rd + 1)) first_out
     (out b (rd + 1) x (operands_are P homes Holds none both handed value b (rd + 1) x)))
 operands_are P homes Holds none both handed value _ rd h = none
-
--- what holds of the code of all values
-pub each_operands_are : (P : PlainParts → Type 0) (homes : Homes) → P no_part → ((x y : PlainParts) → P x → P y
-    → P (joined x y)) → ((e : PlainSp) (rd to : ℕ) → P (value_code homes e rd to)) → (e : PlainSp) (rd : ℕ)
-    → P (operands_code homes e rd)
-each_operands_are P homes none both value e rd =
-    operands_are P homes (λ e rd. Unit {0}) none both nothing_handed (λ e rd h. value e rd rd) e rd tt
-
-pub each_expr_is : (P : PlainParts → Type 0) (homes : Homes) → P no_part → ((x y : PlainParts) → P x → P y
-    → P (joined x y)) → ((e : PlainSp) (rd to : ℕ) → P (value_code homes e rd to)) → (e : PlainSp) (rd to : ℕ)
-    → P (expr_to homes e rd to)
-each_expr_is P homes none both value e rd to = both (operands_code homes e rd) (value_code homes e rd to)
-    (each_operands_are P homes none both value e rd) (value e rd to)
 
 -- ---- a word that is set in any case, in a predicate, in a register and in the stack
 

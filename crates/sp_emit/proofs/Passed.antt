@@ -11,21 +11,21 @@ use Rattle.sp_shape.specs.Run.{Run, Sources, run, IsWhole}
 use Rattle.sp_shape.specs.Trail.{Step, all_done, parts_trail}
 use Rattle.sp_shape.proofs.Lists.{all_append}
 use Rattle.sp_emit.specs.Functions.{argument_kept, arguments_kept, mask_in, mask_kept, place_kept, state_kept, place_brought, result_given, frame_taken, frame_freed, base_slot, offset_slot, first_counter, function_end, body_code, function_code, places_of, return_tail, words_taken, words_freed, frame_words}
-use Rattle.sp_emit.specs.Instructions.{always, copy}
-use Rattle.sp_emit.specs.declared.registers.TheConstants.{RESULT, MASK, FIRST, OVERRUN}
+use Rattle.sp_emit.specs.Instructions.{copy}
+use Rattle.sp_emit.specs.declared.registers.TheConstants.{SPARE, RESULT, MASK, FIRST, OVERRUN}
 use Rattle.sp_emit.proofs.Arguments.{did_stack}
 use Rattle.sp_emit.specs.Chains.{stmts_call}
 use Rattle.sp_emit.proofs.Beginning.{reserved_after}
 use Rattle.sp_emit.specs.Functions.{codes}
 use Rattle.sp_emit.specs.Holding.{KeepsFrom}
 use Rattle.sp_emit.specs.Flags.{begun_body}
-use Rattle.sp_emit.specs.Places.{flag_of, read_word, words_cleared, stmts_least, tops, top_of, stack_word}
+use Rattle.sp_emit.specs.Places.{flag_of, read_word, words_cleared, tops, top_of, stack_word}
 use Rattle.sp_emit.proofs.Codes.{codes_at, tops_at, kept_is, brought_is, words_few, words_called, words_outside, code_of}
-use Rattle.sp_tree.proofs.Forms.{FunctionParts, parts_of_function}
-use Rattle.sp_emit.proofs.BegunBody.{begun_formed, begun_levels, begun_least}
+use Rattle.sp_tree.proofs.Forms.{FunctionParts}
 use Rattle.sp_emit.proofs.FlagWords.{cleared_within}
-use Rattle.sp_emit.proofs.Formed as formed
-use Rattle.sp_emit.proofs.Low.{AreLow, IsHomed, spare_low, read_low, stmts_low, set_low}
+use Rattle.sp_emit.proofs.Formed.{body_formed}
+use Rattle.sp_emit.proofs.Low.{AreLow, outside_past, set_low, read_low, end_at, word_at, stmts_low}
+use Rattle.sp_emit.proofs.Windows.{InWindow, own_window, body_placed}
 use Rattle.sp_emit.proofs.Passing.{outside_low, AllPass, Passes, passes, passes_then, passes_more, passes_done, passes_parts}
 use Rattle.sp_emit.proofs.Serves.{function_run}
 use Rattle.sp_emit.specs.declared.stands.Homes.{Homes}
@@ -33,13 +33,13 @@ use Rattle.sp_emit.proofs.WordPlaces.{Outside}
 
 -- ---- before and after the body
 
-arguments_low : (homes : Homes) (slots top count n : ℕ) → n ≤ slots → homes.first + slots ≤ top
+arguments_low : (homes : Homes) (slots top count n : ℕ) → 1 ≤ top → n ≤ slots → homes.first + slots ≤ top
     → Outside homes.first slots count → AreLow top count (arguments_kept homes.first n)
-arguments_low homes slots top count zero le within out = refl
-arguments_low homes slots top count (suc n) le within out =
+arguments_low homes slots top count zero some le within out = refl
+arguments_low homes slots top count (suc n) some le within out =
     all_append (passes top count) (arguments_kept homes.first n) (argument_kept homes.first n)
-    (arguments_low homes slots top count n (omega (arith, le)) within out)
-    (rw (set_low top count homes.first always n (FIRST + n) (omega (arith, le, within)) (out n le)) refl)
+    (arguments_low homes slots top count n some (omega (arith, le)) within out)
+    (rw (set_low top count some homes.first n (FIRST + n) (omega (arith, le, within)) (out n le)) refl)
 
 state_low : (homes : Homes) (top count : ℕ) (f : PlainFunction) → f.mask < slots_of f → homes.first + slots_of f ≤ top
     → MASK < top → Outside homes.first (slots_of f) count → (stmts_call f.body ≡ true → base_slot homes.first f + 2
@@ -47,17 +47,15 @@ state_low : (homes : Homes) (top count : ℕ) (f : PlainFunction) → f.mask < s
 state_low homes top count f mask within own out room =
     all_append (passes top count) (mask_kept homes f) (place_kept homes.first f) (by (flag_of homes.flags f.mask))
     (kept_is (AreLow top count) homes.first f (λ has. rw (
-      spare_low top,
-      lt-ltb (base_slot homes.first f) count
-          (omega (arith, room has)),
+      outside_past top SPARE (omega arith),
+      lt-ltb (base_slot homes.first f) count (omega (arith, room has)),
       lt-ltb (offset_slot homes.first f) count (omega (arith, room has)),
     ) refl) refl)
   where
     by : (o : Option ℕ) → AreLow top count (mask_in o homes.first f.mask)
     by None = rw (
       outside_low top MASK own,
-      set_low top count homes.first always f.mask MASK
-          (omega (arith, mask, within)) (out f.mask mask),
+      set_low top count (omega (arith, own)) homes.first f.mask MASK (omega (arith, mask, within)) (out f.mask mask),
     ) refl
     by (Some p) = refl
 
@@ -140,7 +138,7 @@ enters_frame homes from fs number f m own p whole enough =
     (λ slot lt. rw (outside_low top (homes.first + slot) (omega (arith, lt, p.room))) refl)) in
     let second = in_frame_still (omega arith) room first c in
     let a = passes_done from top n (arguments_kept homes.first f.parameters) (cleared homes from f m) most c.whole
-    (arguments_low homes (slots_of f) top n f.parameters (omega (arith, p.before_mask, p.mask))
+    (arguments_low homes (slots_of f) top n f.parameters (omega (arith, own)) (omega (arith, p.before_mask, p.mask))
     (omega (arith, p.room)) out) in
     let third = in_frame_still (omega arith) room second a in
     let b = passes_done from top n (state_kept homes f) (run from (all_done (arguments_kept homes.first f.parameters))
@@ -148,13 +146,6 @@ enters_frame homes from fs number f m own p whole enough =
     (state_low homes top n f p.mask (omega (arith, p.room)) (omega (arith, own)) out
     (λ has. let is = words_called homes.first f has in omega (arith, is))) in
     in_frame_still (omega arith) room third b
-
--- a function whose window begins after all that its code and what it calls use
-pub record InWindow (homes : Homes) (tops : List ℕ) (fs : List PlainFunction) (number : ℕ)
-    (f : PlainFunction) : Type 0 where
-  pub parts : FunctionParts fs number f
-  pub homed : IsHomed homes fs number (slots_of f)
-  pub least : stmts_least tops f.body ≤ homes.first
 
 pub works_in_frame : (homes : Homes) (from : Sources) (code : ℕ → List Step) (tops : List ℕ) (fs : List PlainFunction)
     (number low : ℕ) (f : PlainFunction) (m : Run) → InWindow homes tops fs number f → AllPass from code tops number low
@@ -167,17 +158,13 @@ works_in_frame homes from code tops fs number low f m w others whole enough =
     let n = frame_words homes.first f in
     let few = words_few homes.first f (omega (arith, p.room)) in
     let x = enters_frame homes from fs number f m w.homed.own p whole (omega (arith, enough, p.frame)) in
-    let levels = begun_levels homes.flags f in
-    let fewer = begun_least homes.flags tops f in
-    let begun = begun_formed homes.flags fs number (slots_of f) f p.body in
     let counter = first_counter f in
+    let b = body_placed w in
     passes_more (omega (arith, p.room, p.mask)) (omega arith) (passes_parts from code tops number low
-    (homes.first + (counter + 1)) (stack_word homes.first (counter + 1)) (omega (arith, p.frame)) others
-    (body_code homes f)
-    (formed.stmts_formed homes fs number (slots_of f) n counter (begun_body homes.flags f) begun)
-    (stmts_low tops homes fs number (slots_of f) n counter (begun_body homes.flags f) w.homed
-    (omega (arith, p.room, p.mask, levels)) begun (omega (arith, fewer, w.least)))
-    (entered homes from f m) x.whole (omega (arith, x.st, few, enough, p.frame)))
+    (end_at homes counter) (word_at homes counter) (omega (arith, p.frame)) others (body_code homes f) (body_formed w)
+    (stmts_low tops homes fs number (slots_of f) n counter w.homed (omega (arith, b.levels)) counter
+    (begun_body homes.flags f) (omega arith) b) (entered homes from f m) x.whole
+    (omega (arith, x.st, few, enough, p.frame)))
 
 frees_frame : (from : Sources) (top frame : ℕ) (m n : Run) → frame ≤ m.st → InFrame top frame m n
     → Passes top 0 m (run from (all_done (words_freed frame)) n)
@@ -202,10 +189,10 @@ frees_frame from top (suc k) m n enough x =
 -- the end of a function changes no word of the stack
 given_low : (homes : Homes) (top : ℕ) (f : PlainFunction) → MASK < top → AreLow top 0 (given_back homes.first f)
 given_low homes top f own =
-    let read = read_low top 0 homes.first RESULT f.result (omega (arith, own)) in
+    let read = read_low top 0 (omega (arith, own)) homes.first RESULT f.result (omega (arith, own)) in
     let flag = outside_low top MASK own in
     brought_is (λ bs. AreLow top 0 (bs ++ result_read homes.first f)) homes.first f
-    (λ has. rw (spare_low top, read, flag) refl) (rw (read, flag) refl)
+    (λ has. rw (outside_past top SPARE (omega arith), read, flag) refl) (rw (read, flag) refl)
 
 return_low : (top : ℕ) → 1 ≤ top → AreLow top 0 return_tail
 return_low top some = rw (outside_low top 0 some) refl
@@ -249,23 +236,6 @@ capped_passes p = record {
         p.keeps.high r (omega (arith, from, lt)) lt;
   };
 }
-
--- each in its window, over the earlier ones
-pub own_window : (fs : List PlainFunction) (n : ℕ) → functions_formed fs n ≡ true
-    → function_formed fs n (slice_index_or fs n no_function) ≡ true → InWindow (places_of fs n) (tops fs n) fs n
-    (slice_index_or fs n no_function)
-own_window fs n earlier formed =
-    let p = parts_of_function fs n (slice_index_or fs n no_function) formed in
-    record {
-      parts = p;
-      homed = record {
-        earlier = earlier;
-        some = omega (arith, p.mask);
-        most = omega (arith, p.room, p.frame);
-        own = omega arith;
-      };
-      least = omega arith;
-    }
 
 pub all_pass : (from : Sources) (fs : List PlainFunction) (n : ℕ) → n ≤ length fs → functions_formed fs n ≡ true
     → AllPass from (code_of fs n) (tops fs n) n (n * 128)

@@ -1,32 +1,26 @@
 -- What code leaves of the stack after the first words of a frame, and of the registers from one on, whatever its
 -- loads give.
-use Rattle.std.proofs.Common.{◌≡◌, ℕ, zero, suc, ◌+◌, ◌*◌, ◌/◌, ◌%◌, ◌^◌, ◌<◌, ◌≤◌, ◌==◌, ◌⊎◌, inl, inr, Bool, true, false, ◌&&◌, ◌||◌, if◌then◌else◌, is_none, Option, None, Some, List, [], ◌∷◌, ◌++◌, nat_lt, slice_index_or, refl, sym, ap, ◌∙◌, subst, arith, true≢false, not, ne_eqb}
+use Rattle.std.proofs.Common.{◌≡◌, ℕ, zero, suc, ◌+◌, ◌*◌, ◌/◌, ◌%◌, ◌^◌, ◌<◌, ◌≤◌, ◌==◌, ◌⊎◌, inl, inr, Bool, true, false, ◌&&◌, ◌||◌, if◌then◌else◌, is_none, List, [], ◌∷◌, ◌++◌, nat_lt, slice_index_or, refl, sym, ap, ◌∙◌, subst, arith, true≢false, not, ne_eqb}
 use Rattle.std.specs.Prelude.{nat_le}
 use Rattle.std.specs.List.{list_all}
 use Rattle.std.proofs.lemmas.Bool.{and_parts, and_from, or_cases, leb-true, lt-ltb, ltb-true, eqb-true}
 use Rattle.shared_order.specs.Words.{put}
 use Rattle.patmos_instr.specs.Bundles.{PlainBundle}
-use Rattle.patmos_instr.specs.declared.functions.StackFunc.TheVariants.{Sres, Sens, Sfree}
-use Rattle.patmos_instr.specs.declared.guards.Guard.{Guard}
-use Rattle.patmos_instr.specs.declared.instructions.Instr.{Instr}
+use Rattle.patmos_instr.specs.declared.functions.StackFunc.TheVariants.{Sres, Sfree}
 use Rattle.patmos_instr.specs.declared.instructions.Op.{Op}
-use Rattle.patmos_instr.specs.declared.instructions.Op.TheVariants.{AluImm, AluReg, AluLong, Mul, Cmp, CmpImm, Comb, ToSpecial, FromSpecial, Stack, Load, Store, Branch, Call, BranchFill, Return}
+use Rattle.patmos_instr.specs.declared.instructions.Op.TheVariants.{AluImm, AluReg, AluLong, FromSpecial, Stack, Load, Store}
 use Rattle.patmos_instr.specs.declared.memories.Mem.TheVariants as mem
 use Rattle.patmos_instr.specs.declared.memories.StoreWidth.TheVariants as store
 use Rattle.patmos_instr.specs.declared.memories.Width.TheVariants as load
-use Rattle.patmos_sem.specs.Effects.{address_of, asked, begun as begun_by, write_of}
+use Rattle.patmos_sem.specs.Effects.{asked}
 use Rattle.patmos_sem.specs.Registers.{Registers, word_in, holds}
-use Rattle.patmos_sem.specs.Writes.{came}
 use Rattle.patmos_sem.specs.declared.effects.Effect.TheVariants as effect
-use Rattle.patmos_sem.specs.declared.writes.Write.{Write}
-use Rattle.patmos_sem.specs.declared.writes.Write.TheVariants as write
 use Rattle.sp_shape.proofs.Whole.{behind, once_whole, begun_whole, run_append}
 use Rattle.sp_shape.specs.Formed.{is_call, is_way, is_iteration, part_formed, parts_formed}
 use Rattle.sp_shape.specs.Parts.{PlainPart, straight, repeats, calls_to, leaves, PlainParts, no_part, part}
-use Rattle.sp_shape.specs.Run.{Run, Sources, word_given, once, effected, run, begun, IsWhole}
+use Rattle.sp_shape.specs.Run.{Run, Sources, once, effected, run, begun, IsWhole}
 use Rattle.sp_shape.specs.Trail.{Step, begins, all_done, copies, part_trail, parts_trail}
-use Rattle.sp_emit.specs.Holding.{held, KeepsFrom}
-use Rattle.sp_emit.specs.Instructions.{under}
+use Rattle.sp_emit.specs.Holding.{KeepsFrom}
 use Rattle.sp_emit.specs.Means.{KeepsAfter}
 use Rattle.sp_emit.specs.declared.registers.TheConstants.{OVERRUN}
 use Rattle.sp_emit.proofs.Frames.{put_other}
@@ -39,8 +33,7 @@ abbrev pub is_outside : ℕ → ℕ → Bool
 is_outside top r = nat_lt r top || nat_le OVERRUN r
 
 -- an instruction that changes no word of the stack but one of the first so many, leaves its top, and sets no register
--- from
--- one on, before the flag of loops
+-- from one on, before the flag of loops
 abbrev pub is_low : ℕ → ℕ → Op → Bool
 is_low top count (AluImm func rd ra imm) = is_outside top rd
 is_low top count (AluReg func rd ra rb) = is_outside top rd

@@ -1,5 +1,5 @@
 -- Code that stores in no register of the interface starts no transfer; and code after other code.
-use Rattle.std.proofs.Common.{ℕ, ◌≡◌, true≢false, Bool, true, false, if◌then◌else◌, List, [], ◌∷◌, ◌++◌, sym, refl}
+use Rattle.std.proofs.Common.{ℕ, ◌≡◌, true≢false, Bool, true, false, if◌then◌else◌, List, [], ◌∷◌, ◌++◌, sym, refl, arith}
 use Rattle.std.specs.List.{list_all}
 use Rattle.std.proofs.lemmas.Bool.{and_parts}
 use Rattle.patmos_instr.specs.Bundles.{PlainBundle}
@@ -12,17 +12,11 @@ use Rattle.patmos_sem.specs.declared.effects.Effect.TheVariants as effect
 use Rattle.sp_shape.specs.Memory.{Memory}
 use Rattle.sp_shape.specs.Run.{Run, Sources, once, run, begun}
 use Rattle.sp_shape.specs.Trail.{Step, does, begins, all_done}
-use Rattle.patmos_instr.specs.declared.functions.CmpFunc.TheVariants as cmp
-use Rattle.sp_emit.specs.Places.{fetched_at, mask_test}
-use Rattle.sp_emit.proofs.FlagWords.{test_is}
-use Rattle.sp_emit.proofs.WordPlaces.{fetch_is}
+use Rattle.sp_emit.specs.Places.{mask_test}
 use Rattle.sp_emit.specs.Starting.{StartsWell, AllStart, AllWords}
-use Rattle.sp_emit.specs.Instructions.{always, under, set_number, compare_short}
-use Rattle.sp_emit.proofs.Numbers.{number_op_is}
-use Rattle.sp_emit.proofs.Offsets.{AddressAre, address_are}
-use Rattle.sp_tree.specs.declared.expressions.SpArray.{SpArray}
-use Rattle.sp_emit.specs.declared.registers.TheConstants.{SPARE, TEST}
 use Rattle.sp_emit.specs.declared.stands.Homes.{Homes}
+use Rattle.sp_emit.proofs.Footprints.{Footprint, is_in, AreIn, everything, seek_in, match_in}
+use Rattle.sp_shape.proofs.Lists.{all_weaker}
 
 -- ---- code that stores in no register of the interface
 
@@ -68,16 +62,17 @@ words_right from [] ys m words = words
 words_right from (does x ∷ xs) ys m words = words_right from xs ys (once from x m) words.1
 words_right from (begins ∷ xs) ys m words = words_right from xs ys (begun m) words
 
+-- the class of such bundles
+abbrev pub portless : Footprint
+portless = record everything { writes = false }
+
+is_kept : (b : PlainBundle) → is_in portless b ≡ true → is_portless b ≡ true
+is_kept b within = grind (arith, within)
+
+pub all_portless : (bs : List PlainBundle) → AreIn portless bs → list_all is_portless bs ≡ true
+all_portless bs = all_weaker (is_in portless) is_portless is_kept bs
+
 -- the test of a mask
 pub portless_test : (homes : Homes) (mask : ℕ) → list_all is_portless (mask_test homes mask) ≡ true
-portless_test homes mask =
-    test_is (λ bs. list_all is_portless bs ≡ true) homes mask (λ p is. refl)
-    (λ is. fetch_is (λ b. list_all is_portless (b ∷ compare_short cmp.Eq TEST (fetched_at homes.first mask) 1 ∷ [])
-    ≡ true) homes.first mask refl (λ out. refl))
-
-pub portless_number : (rd n : ℕ) → is_portless (set_number rd n) ≡ true
-portless_number rd n = number_op_is (λ op. is_portless (under always op) ≡ true) rd n refl refl
-
-pub portless_address : (a : SpArray) (pd rd ra : ℕ) → AddressAre (λ b. is_portless b ≡ true) a pd rd ra
-portless_address a pd rd ra =
-    address_are (λ b. is_portless b ≡ true) a pd rd ra refl (portless_number SPARE) refl refl refl refl
+portless_test homes mask = all_portless (mask_test homes mask)
+    (rw (seek_in portless homes mask (λ out. refl), match_in portless homes mask) refl)

@@ -1,7 +1,7 @@
 -- The code of a function takes at most as many words as its trees cost.
 use Rattle.std.proofs.Common.{◌≡◌, ℕ, zero, suc, ◌+◌, ◌-◌, ◌≤◌, Bool, true, false, List, [], ◌∷◌, length, refl, sym, ap, subst, arith, if◌then◌else◌, Option, None, Some, ◌++◌, true≢false, ◌||◌, ◌&&◌, ◌∙◌}
-use Rattle.std.specs.Prelude.{nat_lt, nat_le, is_some}
-use Rattle.std.proofs.lemmas.Bool.{and_parts, leb-true, ltb-true}
+use Rattle.std.specs.Prelude.{nat_lt, is_some}
+use Rattle.std.proofs.lemmas.Bool.{and_parts, ltb-true}
 use Rattle.std.proofs.lemmas.Bool.Decides.{nat_tests}
 use Rattle.c_world.specs.declared.region.Region.{Region}
 use Rattle.patmos_instr.specs.declared.functions.AluFunc.TheVariants as alu
@@ -510,7 +510,7 @@ target_room homes mask (to_array array index) =
     )
 
 -- an instruction takes as many words under a mask as under none
-guarded_room : (homes : Homes) (mask : ℕ) (e : PlainSp) (to : ℕ) (op : Op) → Gives (value_code homes e FIRST to) op
+guarded_room : (homes : Homes) (mask : ℕ) (e : PlainSp) (to : ℕ) (op : Op) → Gives to (value_code homes e FIRST to) op
     → parts_room (guarded_code homes mask e op) ≤ 4 + expr_cost e
 guarded_room homes mask e to op gives =
     let bundles = mask_test homes mask ++ under (where_so (told_at homes mask)) op ∷ [] in

@@ -1,30 +1,23 @@
 -- Code that leaves the second predicate as it is: that of expressions without `&&`, `||` and divisions.
-use Rattle.std.proofs.Common.{◌≡◌, ℕ, ◌+◌, Bool, true, false, true≢false, not, ◌&&◌, ◌||◌, List, [], ◌∷◌, is_none, nat_lt, Option, None, Some, if◌then◌else◌, ◌⊎◌, inl, inr, refl, sym, ap, ◌∙◌, arith}
+use Rattle.std.proofs.Common.{◌≡◌, ℕ, ◌+◌, Bool, true, false, true≢false, not, ◌&&◌, ◌||◌, List, nat_lt, Option, None, Some, if◌then◌else◌, refl, ap, ◌∙◌, arith}
 use Rattle.std.specs.Prelude.{is_some}
 use Rattle.std.specs.List.{list_all}
-use Rattle.std.proofs.lemmas.Bool.{and_parts, not-true, or_cases}
+use Rattle.std.proofs.lemmas.Bool.{and_parts, not-true}
 use Rattle.patmos_instr.specs.Bundles.{PlainBundle}
-use Rattle.patmos_instr.specs.declared.guards.Guard.{Guard}
 use Rattle.patmos_instr.specs.declared.functions.CmpFunc.{CmpFunc}
-use Rattle.patmos_instr.specs.declared.instructions.Instr.{Instr}
-use Rattle.patmos_instr.specs.declared.instructions.Op.{Op}
-use Rattle.patmos_instr.specs.declared.instructions.Op.TheVariants.{Load}
-use Rattle.patmos_instr.specs.declared.memories.Width.TheVariants as load
-use Rattle.patmos_sem.specs.Registers.{holds}
-use Rattle.patmos_sem.specs.Effects.{address_of as address_by}
 use Rattle.sp_tree.specs.Need.{need}
 use Rattle.sp_tree.specs.Plain.{PlainSp, constant, frame_word, cell_word, array_word, before_one, between_two}
 use Rattle.sp_tree.specs.declared.operators.SpBinary.{SpBinary}
 use Rattle.sp_tree.specs.declared.operators.SpBinary.TheVariants as binary
 use Rattle.sp_tree.specs.declared.operators.SpUnary.{SpUnary}
-use Rattle.sp_shape.proofs.Whole.{once_whole, run_whole}
+use Rattle.sp_shape.proofs.Whole.{run_whole}
 use Rattle.sp_shape.specs.Parts.{straight, PlainParts, no_part, one, joined}
-use Rattle.sp_shape.specs.Run.{Run, by_words, word_given, once, run, IsWhole}
-use Rattle.sp_shape.specs.Trail.{Step, all_done, parts_trail}
+use Rattle.sp_shape.specs.Run.{Run, by_words, run, IsWhole}
+use Rattle.sp_shape.specs.Trail.{Step, parts_trail}
 use Rattle.c_world.specs.declared.region.Region.{Region}
 use Rattle.sp_emit.specs.Divisors.{factor_rest_to}
 use Rattle.sp_emit.specs.Expressions.{is_immediate, number_of, value_at, value_code, operands_code, cell_code, element_code, unary_code, binary_code, held_code, address_of}
-use Rattle.sp_emit.specs.Holding.{held, so}
+use Rattle.sp_emit.specs.Holding.{so}
 use Rattle.sp_emit.specs.Instructions.{always, under, set_number}
 use Rattle.sp_emit.specs.Places.{read_word}
 use Rattle.sp_emit.specs.Truths.{cmp_of, both_of, by_two, by_number, is_division, spares_second, test_of, tested_code}
@@ -34,7 +27,6 @@ use Rattle.sp_emit.proofs.Held.{held_is}
 use Rattle.sp_emit.proofs.Numbers.{number_op_is}
 use Rattle.sp_emit.proofs.Offsets.{address_are}
 use Rattle.sp_emit.proofs.Operands.{one_of, Handed, operands_are, word_code_is}
-use Rattle.sp_emit.proofs.Once.{did_load, did_nothing, so_by_register}
 use Rattle.sp_emit.proofs.Untouched.{predicate, leaves, left_run}
 use Rattle.sp_emit.proofs.Values.{run_joined, run_lone}
 use Rattle.sp_emit.proofs.WordPlaces.{read_is}

@@ -1,6 +1,6 @@
 -- How large an expression is: its parts are smaller.
 use Rattle.std.proofs.Common.{ℕ, ◌+◌}
-use Rattle.sp_tree.specs.Plain.{PlainSp, constant, frame_word, cell_word, array_word, before_one, between_two}
+use Rattle.sp_tree.specs.Plain.{PlainSp, array_word, before_one, between_two}
 
 abbrev pub size : PlainSp → ℕ
 size (array_word array index) = 1 + size index

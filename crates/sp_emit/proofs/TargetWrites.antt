@@ -29,7 +29,8 @@ use Rattle.sp_emit.specs.Statements.{cell_write, element_write, masked_store, ta
 use Rattle.sp_emit.specs.declared.registers.TheConstants.{FIRST, SPARE, OVERRUN, TEST, SECOND}
 use Rattle.sp_tree.specs.Need.{need}
 use Rattle.sp_emit.proofs.Needs.{some_need}
-use Rattle.sp_emit.proofs.CalmCode.{own_free, number_calm, spare_free, calm_address}
+use Rattle.sp_emit.proofs.Footprints.{number_in}
+use Rattle.sp_emit.proofs.CalmCode.{own_free, spare_free, calm, all_calm, address_calm}
 use Rattle.sp_emit.proofs.Calm.{calm_run}
 use Rattle.sp_emit.proofs.CellWrites.{with_where, local_store, main_store, cached_is_plain, main_is_plain}
 use Rattle.sp_emit.proofs.Cells.{cell_found, element_found, few_words, first_small}
@@ -112,8 +113,9 @@ cell_done homes f frame counter slots mask c e s m most masked cell formed const
     (nat_lt c.word (room_in c.region all_rooms)) cell).1 in
     let u2 = once by_words (set_number SPARE address) u in
     let long = calm_run by_words SPARE homes.first (all_done (set_number SPARE address ∷ [])) u
-    (omega arith) t.keeps.whole (rw (number_calm SPARE homes.first SPARE address (spare_free SPARE homes.first SPARE
-    (omega arith) (omega arith))) refl) in
+    (omega arith) t.keeps.whole (all_calm SPARE homes.first (omega arith) (set_number SPARE address ∷ [])
+    (rw (number_in (calm SPARE homes.first (omega arith)) SPARE address (spare_free SPARE homes.first SPARE
+    (omega arith) (omega arith))) refl)) in
     let v = (0 + address) % 2 ^ 32 in
     let set = did_set_number by_words SPARE address u t.keeps.whole in
     let small = first_small c.region c.word (omega (arith, lies)) in
@@ -194,8 +196,8 @@ reaches homes from told b v index a u few other within whole test is len_small a
     record {
       keeps = calm_run from (FIRST + 1) homes.first (all_done (element_address_made [] told a)) u (omega arith) whole (
           let free = own_free (FIRST + 1) homes.first (FIRST + 1) (omega arith) (omega arith) within in
-          let spare = spare_free (FIRST + 1) homes.first SPARE (omega arith) (omega arith) in
-          let address = calm_address (FIRST + 1) homes.first a SECOND (FIRST + 1) (FIRST + 1) refl free spare in
+          let address =
+          address_calm (FIRST + 1) homes.first (omega arith) a SECOND (FIRST + 1) (FIRST + 1) refl free in
           rw (address.length, address.below, address.base, address.scaled) refl
           );
       test = ap (so TEST) steps ∙ s.preds TEST (omega arith) ∙ so_got TEST both n c.whole (omega arith) (omega arith)

@@ -1,5 +1,5 @@
 -- The code of statements, functions and tasks asks for what their trees name.
-use Rattle.std.proofs.Common.{◌≡◌, ℕ, zero, suc, ◌+◌, ◌-◌, ◌<◌, ◌≤◌, ◌==◌, ◌⊎◌, inl, inr, Bool, true, false, ◌&&◌, if◌then◌else◌, Option, None, Some, List, [], ◌∷◌, ◌++◌, length, slice_index_or, nat_lt, refl, sym, subst, arith}
+use Rattle.std.proofs.Common.{◌≡◌, ℕ, zero, suc, ◌+◌, ◌-◌, ◌<◌, ◌≤◌, ◌==◌, ◌⊎◌, inl, inr, Bool, true, false, ◌&&◌, if◌then◌else◌, List, [], ◌∷◌, ◌++◌, length, slice_index_or, nat_lt, refl, sym, subst, arith}
 use Rattle.std.specs.Prelude.{nat_le}
 use Rattle.std.specs.List.{All, list_all}
 use Rattle.std.proofs.lemmas.Bool.{cases_lt, and_parts, ltb-true, eqb-true, eqb-false}
@@ -11,18 +11,19 @@ use Rattle.sp_tree.specs.Formed.{send_formed, target_formed, array_formed, expr_
 use Rattle.sp_tree.specs.Plain.{PlainSp}
 use Rattle.sp_tree.specs.Statements.{PlainSpTarget, to_slot, to_cell, to_array, PlainStmt, masks, writes, calls, transfers, overruns, iterations, PlainStmts, no_stmt, stmt, PlainFunction, no_function, PlainUnit}
 use Rattle.sp_tree.specs.Uses.{Use, expr_uses, args_uses, target_uses, stmt_uses, stmts_uses, functions_uses, uses_of}
-use Rattle.sp_shape.specs.Bundles.{parts_all}
 use Rattle.sp_shape.specs.Parts.{straight, no_part, one, joined}
 use Rattle.sp_shape.specs.Trail.{Step, all_done, parts_trail, trails, trail}
 use Rattle.sp_emit.specs.Accesses.{AsksOnly}
 use Rattle.sp_emit.specs.Expressions.{operands_code, expr_code}
 use Rattle.sp_emit.specs.Functions.{first_counter, function_begin, function_end, function_rest, function_code, return_tail, places_of, emitted, frame_words}
-use Rattle.sp_emit.specs.Statements.{slot_write, cell_write, element_write, target_write, args_code, call_code, send_code, overrun_code, slot_set, iterations_begin, iterations_tail, stmt_code, stmts_code, mask_handed}
+use Rattle.sp_emit.specs.Statements.{slot_write, cell_write, element_write, target_write, args_code, call_code, send_code, overrun_code, slot_set, iterations_begin, iterations_tail, stmt_code, stmts_code}
 use Rattle.sp_emit.specs.Instructions.{always, where_so, under}
-use Rattle.sp_emit.specs.declared.registers.TheConstants.{RESULT, MASK, FIRST, OVERRUN}
-use Rattle.sp_emit.proofs.Accessing.{asks_append, asks_nothing, asks_copies, is_near, near_asks, near_parts, near_read, near_set, near_fetch, near_seek, near_match, near_keep, near_number}
+use Rattle.sp_emit.specs.declared.registers.TheConstants.{RESULT, FIRST, OVERRUN}
+use Rattle.sp_emit.proofs.Accessing.{asks_append, asks_nothing, asks_copies, is_near, near_asks, near_parts, nearby, is_kept, all_near, near_set, near_seek, near_match}
+use Rattle.sp_emit.proofs.Footprints.{read_in}
+use Rattle.sp_emit.proofs.Walks.{Within, wide_within, each_flows, begins, tails}
 use Rattle.sp_emit.specs.Flags.{behind_first, begun_body}
-use Rattle.sp_emit.specs.Places.{set_word, fetched_at, mask_test, told_at}
+use Rattle.sp_emit.specs.Places.{read_word, set_word, mask_test, told_at}
 use Rattle.sp_emit.specs.Functions.{codes}
 use Rattle.sp_emit.proofs.Around.{begin_all, end_all}
 use Rattle.sp_emit.proofs.BegunBody.{begun_is, begun_formed}
@@ -35,7 +36,6 @@ use Rattle.sp_emit.proofs.Lasts.{is_alu, write_is}
 use Rattle.sp_emit.proofs.Operands.{mask_is}
 use Rattle.sp_emit.specs.declared.stands.Homes.{Homes}
 use Rattle.sp_emit.specs.declared.stands.Flags.{Flags}
-use Rattle.sp_emit.proofs.FlagWords.{handed_is}
 
 -- ---- values
 
@@ -61,8 +61,8 @@ near_lone : (Named : Use → Type 0) (f : ℕ → List Step) (bs : List PlainBun
     → AsksOnly Named (parts_trail f (one (straight bs)))
 near_lone Named f bs near = asks_lone f bs (near_asks Named bs near)
 
-alu_near : (g : Guard) (op : Op) → is_alu op ≡ true → is_near (under g op) ≡ true
-alu_near g op alu = grind (arith, alu)
+alu_near : (to : ℕ) (g : Guard) (op : Op) → is_alu to op ≡ true → is_near (under g op) ≡ true
+alu_near to g op alu = grind (arith, alu)
 
 target_asks : (homes : Homes) (Named : Use → Type 0) (f : ℕ → List Step) (slots mask : ℕ) (target : PlainSpTarget)
     → slots ≤ 128 → target_formed slots target ≡ true → AreNamed Named (target_uses target)
@@ -83,38 +83,28 @@ target_asks homes Named f slots mask (to_array array index) most formed named =
 
 -- ---- statements, over what earlier functions ask for
 
-near_handed : (homes : Homes) (mask : ℕ) → list_all is_near (mask_handed homes mask) ≡ true
-near_handed homes mask = handed_is (λ bs. list_all is_near bs ≡ true) homes mask (λ p is. refl)
-    (λ none. rw (near_read homes.first MASK mask) refl)
-
-call_near : (homes : Homes) (frame mask k : ℕ) (result : Option ℕ)
-    → parts_all is_near (call_code homes frame mask k result) ≡ true
-call_near homes frame mask k None = rw (near_handed homes mask) refl
-call_near homes frame mask k (Some slot) = rw (
-  near_handed homes mask,
-  near_seek homes mask,
-  near_match homes mask,
-  near_set homes.first (where_so (told_at homes mask)) slot RESULT,
-) refl
+everywhere_near : (homes : Homes) (most : ℕ) → Within nearby homes most
+everywhere_near homes most =
+    wide_within nearby (λ r. refl) (λ word. refl) (λ word. refl) homes most (λ slot p is. refl)
 
 mutual
   stmt_asks : (homes : Homes) (Named : Use → Type 0) (f : ℕ → List Step) (fs : List PlainFunction)
       (number slots frame counter : ℕ) → ((k : ℕ) → k < number → AsksOnly Named (f k)) → functions_formed fs number
-      ≡ true → slots ≤ 128 → 1 ≤ homes.first
+      ≡ true → slots ≤ 128 → FIRST ≤ homes.first
       → (t : PlainStmt) → stmt_formed fs number slots t ≡ true → AreNamed Named (stmt_uses t)
       → AsksOnly Named (parts_trail f (stmt_code homes frame counter t))
-  stmt_asks homes Named f fs number slots frame counter called earlier most some (masks slot e) formed named =
+  stmt_asks homes Named f fs number slots frame counter called earlier most own (masks slot e) formed named =
       let parts = and_parts (nat_lt slot slots) (expr_formed slots e) formed in
       mask_is (λ ps. AsksOnly Named (parts_trail f ps)) homes slot e
       (λ p is. flag_asks homes Named f p e (expr_fits slots FIRST e most (omega arith) parts.1) named)
-      (λ plain here. expr_asks homes Named f e FIRST (homes.first + slot) (omega (arith, some))
+      (λ plain here. expr_asks homes Named f e FIRST (homes.first + slot) (omega (arith, own))
       (ltb-true (homes.first + slot) OVERRUN here) (omega arith) (expr_fits slots FIRST e most
       (omega arith) parts.1) named)
       (λ plain there. asks_joined f (expr_code homes e FIRST) (slot_set homes.first slot)
       (value_asks homes Named f slots FIRST e most (omega arith) (omega arith) parts.1 named)
       (near_lone Named f (set_word homes.first always slot FIRST ∷ [])
       (rw (near_set homes.first always slot FIRST) refl)))
-  stmt_asks homes Named f fs number slots frame counter called earlier most some (writes mask target e) formed named =
+  stmt_asks homes Named f fs number slots frame counter called earlier most own (writes mask target e) formed named =
       let parts = and_parts (nat_lt mask slots) (target_formed slots target && expr_formed slots e) formed in
       let targets = and_parts (target_formed slots target) (expr_formed slots e) parts.1 in
       let uses = named_right Named (target_uses target) (expr_uses e) named in
@@ -129,9 +119,9 @@ mutual
       (near_lone Named f last (rw (
         near_seek homes mask,
         near_match homes mask,
-        alu_near (where_so (told_at homes mask)) op gives.alu,
+        alu_near (homes.first + slot) (where_so (told_at homes mask)) op gives.alu,
       ) refl)))
-  stmt_asks homes Named f fs number slots frame counter called earlier most some
+  stmt_asks homes Named f fs number slots frame counter called earlier most own
       (calls mask k args result) formed named =
       let a = and_parts (nat_lt mask slots) (callee_formed fs number k (length args)
       && (args_formed slots args && result_formed slots result)) formed in
@@ -145,8 +135,10 @@ mutual
       (args_ask homes Named f slots args FIRST most (omega arith)
       (omega (arith, few, eqb-true (length args) (slice_index_or fs k no_function).parameters callee.1)) c.0 named)
       (near_parts Named f number called (call_code homes frame mask k result)
-      (call_formed homes number frame mask k result callee.0) (call_near homes frame mask k result))
-  stmt_asks homes Named f fs number slots frame counter called earlier most some
+      (call_formed homes number slots frame mask k result callee.0 (ltb-true mask slots a.0) c.1 own)
+      ((each_flows nearby refl is_near is_kept [] fs number slots frame (everywhere_near homes slots) (omega arith) own
+      refl refl).called mask k result (ltb-true mask slots a.0) (ltb-true k number callee.0) (omega arith) c.1 tt))
+  stmt_asks homes Named f fs number slots frame counter called earlier most own
       (transfers mask core source target count) formed named =
       let parts = and_parts (nat_lt mask slots) (send_formed slots core source target count) formed in
       let send = and_parts (nat_lt core 16)
@@ -165,35 +157,35 @@ mutual
       (asks_joined f (expr_code homes count (FIRST + 2)) sent (value_asks homes Named f slots (FIRST + 2) count most
       (omega arith) (omega arith) rest.1 (named_right Named (expr_uses target) (expr_uses count) behind))
       (asks_lone f (send_code homes mask core) (send_asks homes Named mask core (ltb-true core 16 send.0) named.0))))
-  stmt_asks homes Named f fs number slots frame counter called earlier most some (overruns mask e) formed named =
+  stmt_asks homes Named f fs number slots frame counter called earlier most own (overruns mask e) formed named =
       let parts = and_parts (nat_lt mask slots) (expr_formed slots e) formed in
       asks_joined f (expr_code homes e FIRST) (one (straight (overrun_code homes mask)))
       (value_asks homes Named f slots FIRST e most (omega arith) (omega arith) parts.1 named)
       (near_lone Named f (overrun_code homes mask) (rw (near_seek homes mask, near_match homes mask) refl))
-  stmt_asks homes Named f fs number slots frame counter called earlier most some (iterations count body) formed named =
+  stmt_asks homes Named f fs number slots frame counter called earlier most own (iterations count body) formed named =
       let parts = and_parts (nat_lt 0 count) (stmts_formed fs number slots body) formed in
       let code = stmts_code homes frame (counter - 1) body in
-      let kept = near_keep homes.first counter in
+      let x = everywhere_near homes counter in
       asks_append (near_asks Named (iterations_begin homes.first counter count)
-      (rw (near_number (fetched_at homes.first counter) count, kept) refl))
+      (all_near (iterations_begin homes.first counter count) (begins x counter count (omega arith))))
       (asks_append (asks_copies count (parts_trail f code ++ all_done (iterations_tail homes.first counter))
-      (asks_append (stmts_ask homes Named f fs number slots frame (counter - 1) called earlier most some body
+      (asks_append (stmts_ask homes Named f fs number slots frame (counter - 1) called earlier most own body
       parts.1 named) (near_asks Named (iterations_tail homes.first counter)
-      (rw (near_fetch homes.first counter, kept) refl)))) (asks_nothing Named))
+      (all_near (iterations_tail homes.first counter) (tails x counter (omega arith) refl))))) (asks_nothing Named))
 
   stmts_ask : (homes : Homes) (Named : Use → Type 0) (f : ℕ → List Step) (fs : List PlainFunction)
       (number slots frame counter : ℕ) → ((k : ℕ) → k < number → AsksOnly Named (f k)) → functions_formed fs number
-      ≡ true → slots ≤ 128 → 1 ≤ homes.first
+      ≡ true → slots ≤ 128 → FIRST ≤ homes.first
       → (ts : PlainStmts) → stmts_formed fs number slots ts ≡ true → AreNamed Named (stmts_uses ts)
       → AsksOnly Named (parts_trail f (stmts_code homes frame counter ts))
-  stmts_ask homes Named f fs number slots frame counter called earlier most some no_stmt formed named =
+  stmts_ask homes Named f fs number slots frame counter called earlier most own no_stmt formed named =
       asks_nothing Named
-  stmts_ask homes Named f fs number slots frame counter called earlier most some (stmt t rest) formed named =
+  stmts_ask homes Named f fs number slots frame counter called earlier most own (stmt t rest) formed named =
       let parts = and_parts (stmt_formed fs number slots t) (stmts_formed fs number slots rest) formed in
       asks_joined f (stmt_code homes frame counter t) (stmts_code homes frame counter rest)
-      (stmt_asks homes Named f fs number slots frame counter called earlier most some t parts.0
+      (stmt_asks homes Named f fs number slots frame counter called earlier most own t parts.0
       (named_left Named (stmt_uses t) (stmts_uses rest) named))
-      (stmts_ask homes Named f fs number slots frame counter called earlier most some rest parts.1
+      (stmts_ask homes Named f fs number slots frame counter called earlier most own rest parts.1
       (named_right Named (stmt_uses t) (stmts_uses rest) named))
 
 -- ---- functions
@@ -208,19 +200,21 @@ begun_named Named flags f named = begun_is (λ ts. AreNamed Named (stmts_uses ts
 
 function_asks : (homes : Homes) (Named : Use → Type 0) (code : ℕ → List Step) (fs : List PlainFunction) (number : ℕ)
     (f : PlainFunction) → ((k : ℕ) → k < number → AsksOnly Named (code k)) → functions_formed fs number ≡ true
-    → function_formed fs number f ≡ true → 1 ≤ homes.first
+    → function_formed fs number f ≡ true → FIRST ≤ homes.first
     → AreNamed Named (stmts_uses f.body) → AsksOnly Named (parts_trail code (function_code homes f))
-function_asks homes Named code fs number f called earlier formed some named =
+function_asks homes Named code fs number f called earlier formed own named =
     let p = parts_of_function fs number f formed in
     let body = begun_body homes.flags f in
     asks_append (near_asks Named (function_begin homes f) (begin_all is_near homes f refl (λ r. refl)
     (λ slot rs. near_set homes.first always slot rs) refl (λ slot p is. refl) (λ p is. refl) refl))
     (asks_joined code (stmts_code homes (frame_words homes.first f) (first_counter f) body)
     (function_rest homes.first f) (stmts_ask homes Named code fs number (slots_of f) (frame_words homes.first f)
-    (first_counter f) called earlier (omega (arith, p.room, p.frame)) some body
+    (first_counter f) called earlier (omega (arith, p.room, p.frame)) own body
     (begun_formed homes.flags fs number (slots_of f) f p.body) (begun_named Named homes.flags f named))
     (asks_append (near_asks Named (function_end homes.first f) (end_all is_near homes.first f refl
-    (near_read homes.first RESULT f.result) refl refl)) (asks_append (near_asks Named return_tail refl)
+    (is_kept (read_word homes.first RESULT f.result)
+    (read_in nearby homes.first RESULT f.result refl (λ out. refl))) refl refl))
+    (asks_append (near_asks Named return_tail refl)
     (asks_nothing Named))))
 
 -- what is said of all uses is said of each function's

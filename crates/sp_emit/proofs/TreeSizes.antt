@@ -1,6 +1,6 @@
 -- How large expressions are: code for one is made of code for those in it.
 use Rattle.std.proofs.Common.{◌≡◌, ℕ, ◌+◌, ◌<◌, ◌≤◌, ap, arith}
-use Rattle.sp_tree.specs.Plain.{PlainSp, constant, frame_word, cell_word, array_word, before_one, between_two}
+use Rattle.sp_tree.specs.Plain.{PlainSp, constant, array_word, before_one, between_two}
 use Rattle.sp_tree.specs.declared.operators.SpBinary.{SpBinary}
 
 abbrev pub size : PlainSp → ℕ

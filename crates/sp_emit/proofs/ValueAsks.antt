@@ -22,35 +22,31 @@ use Rattle.sp_tree.specs.Uses.{Use, reads_cell, reads_array, expr_uses}
 use Rattle.sp_tree.specs.declared.expressions.SpArray.{SpArray}
 use Rattle.sp_tree.specs.declared.expressions.SpCell.{SpCell}
 use Rattle.sp_tree.specs.declared.operators.SpBinary.{SpBinary}
-use Rattle.sp_tree.specs.declared.operators.SpUnary.{SpUnary}
 use Rattle.sp_shape.proofs.Joins.{trail_joined}
-use Rattle.sp_shape.proofs.Lists.{all_weaker}
-use Rattle.sp_shape.specs.Bundles.{parts_all}
 use Rattle.sp_shape.specs.Parts.{straight, PlainParts, one, joined}
 use Rattle.sp_shape.specs.Run.{Run, Sources, once, run, IsWhole}
 use Rattle.sp_shape.specs.Trail.{Step, all_done, parts_trail}
 use Rattle.sp_emit.proofs.Values.{value_low}
-use Rattle.sp_emit.proofs.Operands.{one_of, word_code_is, Handed, fits_handed, both_handed, operands_are}
+use Rattle.sp_emit.proofs.Operands.{one_of, Handed, fits_handed, both_handed, operands_are}
 use Rattle.sp_emit.specs.Accesses.{IsReadPlace, MayLoad, MayAsk, cached_address, Asks, AsksOnly}
-use Rattle.sp_emit.proofs.Held.{held_is}
-use Rattle.sp_emit.specs.Division.{unsigned_quotient_to}
-use Rattle.sp_emit.specs.Divisors.{factor_rest_to}
 use Rattle.sp_emit.specs.Expressions.{address_of, cell_space, array_space, offset_of, unary_code, binary_code, held_code, cell_code, element_code, number_of, word_code, value_code, operands_code, expr_to, value_at, is_immediate}
 use Rattle.sp_emit.specs.Fits.{ExprFits}
 use Rattle.sp_emit.specs.Holding.{held}
 use Rattle.sp_emit.specs.Instructions.{always, set_number, load_from, combine}
 use Rattle.sp_emit.specs.Places.{flag_of}
 use Rattle.sp_emit.specs.Truths.{flag_code, bit_sought}
-use Rattle.sp_emit.specs.declared.registers.TheConstants.{FIRST, OVERRUN, TEST, SPARE}
-use Rattle.sp_emit.proofs.Accessing.{asks_append, asks_nothing, is_near, near_asks, near_parts, near_read, near_number, near_fetch}
+use Rattle.sp_emit.specs.declared.registers.TheConstants.{FIRST, OVERRUN, SPARE}
+use Rattle.sp_emit.proofs.Accessing.{asks_append, asks_nothing, is_near, near_asks, near_parts, nearby, is_kept, all_near}
+use Rattle.sp_emit.proofs.Footprints.{number_in, word_in, unary_in, held_in, tests_in, bit_in, cell_in, element_in}
+use Rattle.sp_emit.proofs.Walks.{binary_is, each_walk}
 use Rattle.sp_emit.proofs.Cells.{few_words, first_small}
 use Rattle.sp_emit.proofs.Elements.{Reached, looked_up, reaches, looks_up, looks_at_0}
 use Rattle.sp_emit.proofs.Formed.{binary_formed}
 use Rattle.sp_emit.proofs.Leaving.{did_set_number}
 use Rattle.sp_emit.proofs.Needs.{some_need, array_named, index_named, second_fits, first_fits}
-use Rattle.sp_emit.proofs.Portless.{portless_start, portless_number, portless_address}
+use Rattle.sp_emit.proofs.Portless.{portless_start, portless, all_portless}
 use Rattle.sp_emit.proofs.Once.{with_written, did_load, whole_written, got}
-use Rattle.sp_emit.proofs.TruthCode.{is_test_bundle, TruthParts, flag_is}
+use Rattle.sp_emit.proofs.TruthCode.{TruthParts, flag_is}
 use Rattle.sp_emit.specs.declared.stands.Homes.{Homes}
 
 -- a load of a whole word
@@ -107,7 +103,8 @@ cell_asks Named c rd some few formed named = record {
       ∙ ap (λ a. m.asked ++ word_load (cell_space c.region) rd a ∷ [])
       (let e : (at + 0 * 4) % 2 ^ 32 ≡ at = omega (arith, small) in e))
       (variable_read Named c.region c.word rd formed named);
-  starts = λ from m whole words. portless_start from (cell_code c rd) m (rw (portless_number rd at) refl);
+  starts = λ from m whole words. portless_start from (cell_code c rd) m (all_portless (cell_code c rd)
+      (cell_in portless c rd refl refl));
 }
   where
     at : ℕ
@@ -176,8 +173,8 @@ element_asks Named a rd ra some few low formed named = record {
   cached = [];
   asks = asks;
   starts = λ from m whole words.
-      portless_start from (element_code a rd ra) m (let p = portless_address a TEST rd ra in
-      rw (p.length, p.below, p.base, p.scaled) refl);
+      portless_start from (element_code a rd ra) m
+      (all_portless (element_code a rd ra) (element_in portless a rd ra refl refl));
 }
   where
     within : a.first + a.length ≤ room_in a.region all_rooms
@@ -226,17 +223,6 @@ pub named_right : (Named : Use → Type 0) (xs ys : List Use) → AreNamed Named
 named_right Named [] ys all = all
 named_right Named (x ∷ xs) ys all = named_right Named xs ys all.1
 
-unary_near : (op : SpUnary) (rd ra : ℕ) → list_all is_near (unary_code op rd ra) ≡ true
-unary_near op rd ra = grind arith
-
-held_near : (op : SpBinary) (rd ra n : ℕ) → list_all is_near (held_code op rd ra n) ≡ true
-unfolding factor_rest_to
-held_near op rd ra n = held_is (λ bs. list_all is_near bs ≡ true) op rd ra n (grind arith) (grind arith)
-
-binary_near : (op : SpBinary) (rd ra rb : ℕ) → parts_all is_near (binary_code op rd ra rb) ≡ true
-unfolding unsigned_quotient_to
-binary_near op rd ra rb = grind arith
-
 pub asks_joined : {Named : Use → Type 0} (f : ℕ → List Step) (xs ys : PlainParts) → AsksOnly Named (parts_trail f xs)
     → AsksOnly Named (parts_trail f ys) → AsksOnly Named (parts_trail f (joined xs ys))
 asks_joined {Named} f xs ys a b = subst (AsksOnly Named) (sym (trail_joined f xs ys)) (asks_append a b)
@@ -248,21 +234,18 @@ asks_lone {Named} f bs a = subst (AsksOnly Named) (sym (append-nil (all_done bs)
 operator_asks : (Named : Use → Type 0) (f : ℕ → List Step) (op : SpBinary) (rd ra rb : ℕ)
     → AsksOnly Named (parts_trail f (binary_code op rd ra rb))
 operator_asks Named f op rd ra rb = near_parts Named f 0 (λ k less. absurd (omega (arith, less)))
-    (binary_code op rd ra rb) (binary_formed 0 op rd ra rb) (binary_near op rd ra rb)
-
-word_near : (homes : Homes) (to slot : ℕ) → list_all is_near (word_code (flag_of homes.flags slot) homes.first to slot)
-    ≡ true
-word_near homes to slot =
-    word_code_is (λ bs. list_all is_near bs ≡ true) homes to slot (λ p. refl) (rw (near_read homes.first to slot) refl)
+    (binary_code op rd ra rb) (binary_formed 0 op rd ra rb) (binary_is (each_walk nearby refl is_near is_kept)
+    op rd ra rb refl)
 
 value_asks : (homes : Homes) (Named : Use → Type 0) (f : ℕ → List Step) (e : PlainSp) (rd to : ℕ) → 1 ≤ to
     → to < OVERRUN → ExprFits e rd → AreNamed Named (expr_uses e)
     → AsksOnly Named (parts_trail f (value_code homes e rd to))
 value_asks homes Named f (constant n) rd to some few fits named =
-    asks_lone f (set_number to n ∷ []) (near_asks Named (set_number to n ∷ []) (rw (near_number to n) refl))
+    asks_lone f (set_number to n ∷ []) (near_asks Named (set_number to n ∷ [])
+    (all_near (set_number to n ∷ []) (rw (number_in nearby to n refl) refl)))
 value_asks homes Named f (frame_word slot) rd to some few fits named =
     let bs = word_code (flag_of homes.flags slot) homes.first to slot in
-    asks_lone f bs (near_asks Named bs (word_near homes to slot))
+    asks_lone f bs (near_asks Named bs (all_near bs (word_in nearby homes to slot refl (λ out. refl))))
 value_asks homes Named f (cell_word cell) rd to some few fits named =
     asks_lone f (cell_code cell to) (cell_asks Named cell to some (omega (arith, few)) fits.names named.0)
 value_asks homes Named f (array_word array index) rd to some few fits named =
@@ -271,7 +254,7 @@ value_asks homes Named f (array_word array index) rd to some few fits named =
     (array_named array index fits) named.0)
 value_asks homes Named f (before_one op of) rd to some few fits named =
     asks_lone f (unary_code op to (value_at homes of rd)) (near_asks Named (unary_code op to (value_at homes of rd))
-    (unary_near op to (value_at homes of rd)))
+    (all_near (unary_code op to (value_at homes of rd)) (unary_in nearby op to (value_at homes of rd) refl)))
 value_asks homes Named f (between_two op a b) rd to some few fits named =
     one_of (λ ps. AsksOnly Named (parts_trail f ps)) (is_immediate op b) (nat_lt (need a) (need b))
     (one (straight (held_code op to (value_at homes a rd) (number_of b))))
@@ -279,7 +262,8 @@ value_asks homes Named f (between_two op a b) rd to some few fits named =
     (binary_code op to (value_at homes a rd) (value_at homes b (rd + 1)))
     (asks_lone f (held_code op to (value_at homes a rd) (number_of b))
     (near_asks Named (held_code op to (value_at homes a rd) (number_of b))
-    (held_near op to (value_at homes a rd) (number_of b))))
+    (all_near (held_code op to (value_at homes a rd) (number_of b))
+    (held_in nearby op to (value_at homes a rd) (number_of b) refl))))
     (λ less. operator_asks Named f op to (value_at homes a (rd + 1)) (value_at homes b rd))
     (λ more. operator_asks Named f op to (value_at homes a rd) (value_at homes b (rd + 1)))
 
@@ -320,16 +304,13 @@ expr_asks homes Named f e rd to some_to few some fits named =
     named) (value_asks homes Named f e rd to some_to few fits named)
 
 -- a truth that goes to a predicate asks for what its operands do
-test_near : (b : PlainBundle) → is_test_bundle b ≡ true → is_near b ≡ true
-test_near b is = grind (arith, is)
-
 pub flag_asks : (homes : Homes) (Named : Use → Type 0) (f : ℕ → List Step) (p : ℕ) (e : PlainSp) → ExprFits e FIRST
     → AreNamed Named (expr_uses e) → AsksOnly Named (parts_trail f (flag_code homes p e))
 flag_asks homes Named f p e fits named =
-    flag_is parts p (λ func a b. near (combine func p a b ∷ []) refl) e (fits, named)
+    flag_is parts p (λ func a b. bundles (combine func p a b ∷ []) refl) e (fits, named)
   where
-    near : (bs : List PlainBundle) → list_all is_near bs ≡ true → AsksOnly Named (parts_trail f (one (straight bs)))
-    near bs all = asks_lone f bs (near_asks Named bs all)
+    bundles : (bs : List PlainBundle) → list_all is_near bs ≡ true → AsksOnly Named (parts_trail f (one (straight bs)))
+    bundles bs all = asks_lone f bs (near_asks Named bs all)
 
     parts : TruthParts (λ ps. AsksOnly Named (parts_trail f ps)) homes (λ e. ExprFits e FIRST
         × AreNamed Named (expr_uses e))
@@ -339,6 +320,7 @@ flag_asks homes Named f p e fits named =
       first = λ op a b h. (first_fits op a b h.0, named_left Named (expr_uses a) (expr_uses b) h.1);
       second = λ op a b h. (second_fits op a b h.0, named_right Named (expr_uses a) (expr_uses b) h.1);
       operands = λ e h. operands_ask homes Named f e FIRST (omega arith) h.0 h.1;
-      tests = λ bs tests. near bs (all_weaker is_test_bundle is_near test_near bs tests);
-      bits = λ slot h. near (bit_sought homes.first slot) (rw (near_fetch homes.first slot) refl);
+      tests = λ bs tests. bundles bs (all_near bs (tests_in nearby bs tests));
+      bits = λ slot h. bundles (bit_sought homes.first slot) (all_near (bit_sought homes.first slot)
+          (bit_in nearby homes.first slot (λ out. refl)));
     }

@@ -1,5 +1,5 @@
 -- The code of an expression keeps the registers below its own, the stack and all memories, and leaves its value.
-use Rattle.std.proofs.Common.{◌≡◌, ℕ, ◌+◌, ◌<◌, ◌≤◌, ◌^◌, Bool, true, false, if◌then◌else◌, List, [], ◌∷◌, refl, sym, ap, ◌∙◌, subst, arith, nat_lt, append-nil, true≢false, Option, None, Some}
+use Rattle.std.proofs.Common.{◌≡◌, ℕ, ◌+◌, ◌<◌, ◌≤◌, ◌^◌, Bool, true, false, if◌then◌else◌, List, refl, sym, ap, ◌∙◌, subst, arith, nat_lt, append-nil, true≢false, Option, None, Some}
 use Rattle.std.specs.Prelude.{is_none}
 use Rattle.std.proofs.lemmas.Bool.{and_parts, ltb-true, eqb-true}
 use Rattle.patmos_instr.specs.Bundles.{PlainBundle}
@@ -17,13 +17,13 @@ use Rattle.sp_shape.specs.Parts.{straight, PlainParts, no_part, one, joined}
 use Rattle.sp_shape.specs.Run.{Run, Sources, by_words, run, IsWhole}
 use Rattle.sp_shape.specs.Trail.{Step, all_done, parts_trail}
 use Rattle.sp_shape.proofs.Joins.{trail_joined}
-use Rattle.sp_emit.specs.Expressions.{unary_code, binary_code, held_code, cell_code, element_code, number_of, value_code, operands_code, expr_code, operand_code, value_at, is_home, is_immediate, word_code, home_of}
+use Rattle.sp_emit.specs.Expressions.{unary_code, binary_code, held_code, element_code, number_of, value_code, operands_code, expr_code, operand_code, value_at, is_home, is_immediate, word_code, home_of}
 use Rattle.sp_emit.specs.Fits.{ExprFits}
 use Rattle.sp_emit.specs.Holding.{held, so, Keeps}
-use Rattle.sp_emit.specs.Instructions.{set_number}
 use Rattle.sp_emit.specs.Means.{HasWords, Shows, IsReady}
 use Rattle.sp_emit.proofs.Calm.{parts_calm, calm_run, parts_trail_calm, keeps_all}
-use Rattle.sp_emit.proofs.CalmCode.{joined_calm, lone_calm, unary_calm, binary_calm, held_calm, constant_calm, slot_calm, cell_calm, element_calm}
+use Rattle.sp_emit.proofs.CalmCode.{joined_calm, own_free, calm, calm_walk}
+use Rattle.sp_emit.proofs.Walks.{Room, value_is, operands_is}
 use Rattle.sp_emit.proofs.Elements.{element_leaves}
 use Rattle.sp_emit.proofs.Leaving.{number_leaves, truth_leaves, cell_leaves, unary_leaves}
 use Rattle.sp_emit.proofs.Held.{held_leaves}
@@ -32,7 +32,7 @@ use Rattle.sp_emit.proofs.Needs.{covers, lesser, greater, some_need, word_named,
 use Rattle.sp_emit.specs.Places.{flag_of, in_register, held_in, shown_word}
 use Rattle.sp_emit.proofs.FlagWords.{flag_range, shown_plain, shown_still, is_none_of}
 use Rattle.sp_emit.specs.declared.registers.TheConstants.{SPARE, OVERRUN}
-use Rattle.sp_emit.proofs.Operands.{word_below, home_below, operand_is, one_of, Handed, fits_handed, both_handed, operands_are}
+use Rattle.sp_emit.proofs.Operands.{word_below, home_below, operand_is, Handed, needs_handed, fits_handed, both_handed}
 use Rattle.sp_emit.proofs.WordPlaces.{in_place, read_leaves}
 use Rattle.sp_emit.proofs.Words.{value_word}
 use Rattle.sp_emit.specs.declared.stands.Homes.{Homes}
@@ -55,28 +55,10 @@ before homes e free = omega (arith, free, some_need e)
 -- what gives the value is calm from the register on to which that goes
 pub value_calm : (homes : Homes) (low top : ℕ) (e : PlainSp) (rd to : ℕ) → low ≤ to → to < OVERRUN → to < top
     → parts_calm low top (value_code homes e rd to) ≡ true
-value_calm homes low top (constant n) rd to le few within =
-    lone_calm low top (set_number to n ∷ []) (constant_calm low top to n le few within)
-value_calm homes low top (frame_word slot) rd to le few within =
-    lone_calm low top (word_code (flag_of homes.flags slot) homes.first to slot)
-    (slot_calm low top homes to slot le few within)
-value_calm homes low top (cell_word cell) rd to le few within =
-    lone_calm low top (cell_code cell to) (cell_calm cell low top to le few within)
-value_calm homes low top (array_word array index) rd to le few within =
-    lone_calm low top (element_code array to (value_at homes index rd)) (element_calm array low top to
-    (value_at homes index rd) le few within)
-value_calm homes low top (before_one op of) rd to le few within =
-    lone_calm low top (unary_code op to (value_at homes of rd))
-    (unary_calm op low top to (value_at homes of rd) le few within)
-value_calm homes low top (between_two op a b) rd to le few within =
-    one_of (λ ps. parts_calm low top ps ≡ true) (is_immediate op b) (nat_lt (need a) (need b))
-    (one (straight (held_code op to (value_at homes a rd) (number_of b))))
-    (binary_code op to (value_at homes a (rd + 1)) (value_at homes b rd))
-    (binary_code op to (value_at homes a rd) (value_at homes b (rd + 1)))
-    (lone_calm low top (held_code op to (value_at homes a rd) (number_of b))
-    (held_calm op low top to (value_at homes a rd) (number_of b) le few within))
-    (λ less. binary_calm op low top to (value_at homes a (rd + 1)) (value_at homes b rd) le few within)
-    (λ more. binary_calm op low top to (value_at homes a rd) (value_at homes b (rd + 1)) le few within)
+value_calm homes low top e rd to le few within =
+    let less : low ≤ SPARE = omega (arith, le, few) in
+    value_is (calm_walk low top less) refl homes (λ e rd. Unit {0}) (λ slot rd h out. refl) e rd to
+    tt (own_free low top to le few within)
 
 above_handed : (low : ℕ) → Handed (λ e rd. low ≤ rd)
 above_handed low = record {
@@ -88,25 +70,19 @@ above_handed low = record {
   second_behind = λ op a b rd more h. omega (arith, h);
 }
 
-free_handed : (homes : Homes) → Handed (λ e rd. rd + need e ≤ homes.first)
-free_handed homes = record {
-  index = λ array index rd h. h;
-  operand = λ op of rd h. h;
-  first = λ op a b rd h. omega (arith, h, (covers (nat_lt (need a) (need b)) (need a) (need b)).0);
-  second = λ op a b rd h. omega (arith, h, (covers (nat_lt (need a) (need b)) (need a) (need b)).1);
-  first_behind = λ op a b rd less h. omega (arith, h, lesser (need a) (need b) less);
-  second_behind = λ op a b rd more h. omega (arith, h, greater (need a) (need b) more);
-}
-
 -- the operands are calm from the first register on
 pub operands_calm : (homes : Homes) (low : ℕ) (e : PlainSp) (rd : ℕ) → low ≤ rd → ExprFits e rd
     → rd + need e ≤ homes.first → parts_calm low homes.first (operands_code homes e rd) ≡ true
 operands_calm homes low e rd le fits free =
-    operands_are (λ ps. parts_calm low homes.first ps ≡ true) homes (λ e rd. (low ≤ rd)
-    × (ExprFits e rd × (rd + need e ≤ homes.first))) refl (joined_calm low homes.first)
-    (both_handed (above_handed low) (both_handed fits_handed (free_handed homes)))
-    (λ e rd h. value_calm homes low homes.first e rd rd h.0 (omega (arith, left e h.1.0)) (before homes e h.1.1)) e rd
-    (le, (fits, free))
+    let less : low ≤ SPARE = omega (arith, le, left e fits) in
+    let room : Room (calm low homes.first less) homes (λ e rd. (low ≤ rd)
+    × (ExprFits e rd × (rd + need e ≤ homes.first))) = record {
+      handed = both_handed (above_handed low) (both_handed fits_handed (needs_handed homes.first));
+      sets = λ e rd h.
+          own_free low homes.first rd h.0 (omega (arith, left e h.1.0)) (before homes e h.1.1);
+      reads = λ slot rd h out. refl;
+    } in
+    operands_is (calm_walk low homes.first less) refl room e rd (le, (fits, free))
 
 operands_keep : (homes : Homes) (from : Sources) (f : ℕ → List Step) (e : PlainSp) (rd : ℕ) (m : Run) → ExprFits e rd
     → rd + need e ≤ homes.first → IsWhole m

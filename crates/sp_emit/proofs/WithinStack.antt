@@ -14,21 +14,21 @@ use Rattle.sp_shape.specs.Run.{Run, IsWhole, Back, Sources, run, at_begin}
 use Rattle.sp_shape.specs.Trail.{Step, all_done, parts_trail, trails, trail}
 use Rattle.sp_shape.proofs.Lists.{all_append}
 use Rattle.sp_emit.specs.Functions.{codes}
-use Rattle.sp_emit.specs.Flags.{begun_body}
 use Rattle.sp_emit.specs.Places.{flag_of, words_cleared}
 use Rattle.sp_emit.proofs.Codes.{codes_at, codes_length, kept_is, brought_is, words_few, words_called, words_outside, code_of}
-use Rattle.sp_tree.proofs.Forms.{parts_of_function}
-use Rattle.sp_emit.proofs.BegunBody.{begun_formed, begun_levels, begun_chain}
+use Rattle.sp_emit.proofs.BegunBody.{begun_chain}
 use Rattle.sp_emit.proofs.FlagWords.{cleared_all}
 use Rattle.sp_emit.specs.Chains.{stmts_call, stmts_chain, chains}
-use Rattle.sp_emit.specs.Functions.{arguments_kept, argument_kept, mask_in, mask_kept, place_kept, state_kept, words_taken, words_freed, frame_words, frame_taken, frame_freed, base_slot, offset_slot, first_counter, body_code, function_code, places_of, return_tail, emitted}
+use Rattle.sp_emit.specs.Functions.{arguments_kept, argument_kept, mask_in, mask_kept, place_kept, state_kept, words_taken, words_freed, frame_words, frame_taken, frame_freed, base_slot, offset_slot, body_code, function_code, places_of, return_tail, emitted}
 use Rattle.sp_emit.specs.Instructions.{always}
 use Rattle.sp_emit.specs.declared.registers.TheConstants.{RESULT, MASK, FIRST}
 use Rattle.sp_emit.proofs.Arguments.{did_stack}
 use Rattle.sp_emit.proofs.Passed.{result_read, given_back, end_run}
 use Rattle.sp_emit.proofs.Pointing.{Points, points_then, points_none, points_one, is_inside, Framed, Stays, inside_done}
 use Rattle.sp_emit.proofs.Serves.{function_run}
-use Rattle.sp_emit.proofs.WithinFrames.{GivesBack, CalleesStay, stmts_stay, read_inside, set_inside}
+use Rattle.sp_emit.specs.Places.{tops}
+use Rattle.sp_emit.proofs.Windows.{InWindow, own_window}
+use Rattle.sp_emit.proofs.WithinFrames.{GivesBack, CalleesStay, body_stays, read_inside, set_inside}
 use Rattle.sp_emit.specs.declared.stands.Homes.{Homes}
 use Rattle.sp_emit.proofs.WordPlaces.{Outside}
 
@@ -128,12 +128,13 @@ gives_then from m n b high =
       held = omega (arith, s.framed.held);
     }
 
-function_stays : (homes : Homes) (from : Sources) (code : ℕ → List Step) (g : ℕ → ℕ) (fs : List PlainFunction)
-    (number : ℕ) (f : PlainFunction) → function_formed fs number f ≡ true → CalleesStay from code number g
+function_stays : {homes : Homes} {tops : List ℕ} (from : Sources) (code : ℕ → List Step) (g : ℕ → ℕ)
+    (fs : List PlainFunction) (number : ℕ) (f : PlainFunction) → InWindow homes tops fs number f
+    → CalleesStay from code number g
     → (m : Run) → IsWhole m → m.st ≤ 65536 → m.st ≤ m.ss → 49152 + (f.frame + stmts_chain g f.body) ≤ m.st
     → GivesBack m (run from (parts_trail code (function_code homes f)) m)
-function_stays homes from code g fs number f formed callees m whole high held enough =
-    let p = parts_of_function fs number f formed in
+function_stays {homes} from code g fs number f w callees m whole high held enough =
+    let p = w.parts in
     let n = frame_words homes.first f in
     let few = words_few homes.first f (omega (arith, p.room)) in
     let out = words_outside homes.first f (omega (arith, p.room)) in
@@ -151,12 +152,8 @@ function_stays homes from code g fs number f formed callees m whole high held en
     let x2 = entered_then x1 (inside_done from n (state_kept homes f) t1 x1.stays
     (state_inside homes n f p.mask out calls)) in
     let t2 = run from (all_done (state_kept homes f)) t1 in
-    let levels = begun_levels homes.flags f in
     let chain = begun_chain homes.flags g f in
-    let x3 = entered_then x2 (stmts_stay homes from code g fs number (slots_of f) n (first_counter f) callees
-    (omega (arith, p.mask)) (omega (arith, p.room, p.mask)) (begun_body homes.flags f)
-    (omega (arith, p.room, p.mask, levels))
-    (begun_formed homes.flags fs number (slots_of f) f p.body) t2 x2.stays
+    let x3 = entered_then x2 (body_stays w from code g callees t2 x2.stays
     (omega (arith, chain, x2.st, few, enough))) in
     let t3 = run from (parts_trail code (body_code homes f)) t2 in
     let x4 = entered_then x3 (inside_done from n (given_back homes.first f) t3 x3.stays
@@ -174,14 +171,16 @@ all_stay from fs zero within formed = record { called = λ k less. absurd (omega
 all_stay from fs (suc n) within formed =
     let parts = and_parts (functions_formed fs n) (function_formed fs n (slice_index_or fs n no_function)) formed in
     record {
-      called = λ k less m whole high held enough. by parts.1 (all_stay from fs n (omega (arith, within)) parts.0)
+      called = λ k less m whole high held enough. by (own_window fs n parts.0 parts.1)
+          (all_stay from fs n (omega (arith, within)) parts.0)
           k less m whole high held (k == n) refl enough;
     }
   where
     f : PlainFunction
     f = slice_index_or fs n no_function
 
-    by : function_formed fs n f ≡ true → CalleesStay from (code_of fs n) n (chains fs n) → (k : ℕ) → k < suc n
+    by : InWindow (places_of fs n) (tops fs n) fs n f → CalleesStay from (code_of fs n) n (chains fs n)
+        → (k : ℕ) → k < suc n
         → (m : Run) → IsWhole m → m.st ≤ 65536 → m.st ≤ m.ss → (b : Bool) → (k == n) ≡ b
         → 49152 + (if b then f.frame + stmts_chain (chains fs n) f.body else chains fs n k) ≤ m.st
         → GivesBack m (run from (if b then parts_trail (code_of fs n) (slice_index_or (codes fs) n no_part) else
@@ -189,7 +188,7 @@ all_stay from fs (suc n) within formed =
     by own before k less m whole high held true is enough =
         subst (λ c. GivesBack m (run from (parts_trail (code_of fs n) c) m))
         (sym (codes_at fs n (omega (arith, within))))
-        (function_stays (places_of fs n) from (code_of fs n) (chains fs n) fs n f own before m whole high held enough)
+        (function_stays from (code_of fs n) (chains fs n) fs n f own before m whole high held enough)
     by own before k less m whole high held false other enough =
         before.called k (earlier (cases_lt k n)) m whole high held enough
       where

@@ -1,6 +1,5 @@
 -- Statements over the words of a frame from a place on: seen from there they do what they do in a frame of their own,
--- and
--- they set no word before it.
+-- and they set no word before it.
 use Rattle.std.proofs.Common.{◌≡◌, ◌≢◌, ℕ, zero, suc, ◌+◌, ◌<◌, ◌==◌, Bool, true, false, if◌then◌else◌, List, [], ◌∷◌, Option, Some, None, refl, ap, sym, ◌∙◌, arith, eq-eqb, ne_eqb, ap₂, ◌⊎◌, inl, inr}
 use Rattle.std.specs.Prelude.{cond}
 use Rattle.std.proofs.lemmas.Bool.{cases_eq}

@@ -33,4 +33,5 @@ pub program_clock : (place : Place) (items : List PlainItem) (valid : IsValid it
     → IsCode (single items) → HasClock place (λ p. times p items) (times_on place items valid)
 program_clock place items valid code =
     code_clock place (code_of (single items)) (asking (single items) (program_runs place items valid).formed).cached
-    (link (single items) code) (behaves (single items) place (program_runs place items valid) code)
+    (link (single items) code (program_runs place items valid).formed) (behaves (single items) place
+    (program_runs place items valid) code)

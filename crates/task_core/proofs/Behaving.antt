@@ -1,5 +1,5 @@
 -- The code of a task asks for nothing that a check of a core stops, makes its iterations, and has the same events.
-use Rattle.std.proofs.Common.{◌≡◌, ℕ, ◌+◌, ◌*◌, ◌%◌, ◌^◌, ◌<◌, ◌⊎◌, inl, inr, true, Bool, List, [], ◌∷◌, ◌++◌, length, Option, None, Some, slice_index_or, refl, sym, ap, ◌∙◌, subst, arith}
+use Rattle.std.proofs.Common.{◌≡◌, ℕ, ◌+◌, ◌*◌, ◌%◌, ◌^◌, ◌<◌, ◌⊎◌, inl, inr, true, List, [], ◌∷◌, ◌++◌, length, Option, None, Some, slice_index_or, refl, sym, ap, ◌∙◌, subst, arith}
 use Rattle.std.proofs.Math.ListN.{get_or-eq_default}
 use Rattle.std.specs.Prelude.{◌&&◌, is_none, nat_le, nat_lt}
 use Rattle.std.specs.List.{Contains, AllByRecursion as Each}
@@ -326,22 +326,22 @@ constants_apart b i is first second =
 
 -- what the laws of emit and schedule tell of the code
 module _ (u : PlainUnit) (code : IsCode u) where
-  steady_code : (k : ℕ) → k < length (code_of u).functions → parts_all is_steady (slice_index_or (code_of u).functions k
-      no_part) ≡ true
-  steady_code k below =
+  steady_code : is_formed u ≡ true → (k : ℕ) → k < length (code_of u).functions
+      → parts_all is_steady (slice_index_or (code_of u).functions k no_part) ≡ true
+  steady_code formed k below =
       let few : k < length u.functions =
       omega (arith, below, sched.functions_stay (emitted u), codes_length u.functions) in
-      sched.steady_as (emitted u) (code_of u) refl k (emit.steady_as (emitted u) u refl k few)
+      sched.steady_as (emitted u) (code_of u) refl k (emit.steady_as (emitted u) u refl formed k few)
 
   code_words : HasCode (linked (code_of u))
   code_words = code_is_words (code_of u) code.fits code.bundles
 
-  pub link : IsLinkable (code_of u)
-  link = record {
+  pub link : is_formed u ≡ true → IsLinkable (code_of u)
+  link formed = record {
     formed = code.formed;
     fits = code.fits;
     bundles = code.bundles;
-    steady = steady_code;
+    steady = steady_code formed;
     words = code_words;
     initial = code.initial;
   }

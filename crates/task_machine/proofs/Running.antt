@@ -111,7 +111,7 @@ module _ (u : PlainUnit) (place : Place) (h : IsRunnable u place) (code : IsCode
   whole = bound_of u place
 
   linkable : IsLinkable s
-  linkable = link u code
+  linkable = link u code h.formed
 
   followed : IsFollowed place s addresses input values
   followed = ends place s addresses linkable (behaves u place h code) slots among input values given

@@ -45,7 +45,7 @@ module _ (u : PlainUnit) (place : Place) (input : List ℕ) (world : ℕ → ℕ
         let site : Site = site_of place (linked s) in
         let count : ℕ = bundles_in (trail s) in
         let m : Moment = after_bundles place.cores place.core (begun site input) values count in
-        let k : IsLinkable s = link u code in
+        let k : IsLinkable s = link u code r.formed in
         let e : IsFollowed place s (asking u r.formed).cached input values =
         ends place s (asking u r.formed).cached k (behaves u place r code) slots among input values given in
         let end : m.cycle ≡ (times_of u place).end =

@@ -83,7 +83,7 @@ module _ (u : PlainUnit) (place : Place) (h : IsRunnable u place) (code : IsCode
   well_ended : MadeWell (MayLoadWord Use_named place.core) (MayStoreWord Use_named place.core) (MaySendTo Use_named)
       (core_in last) last.told.own
   well_ended =
-      let k : IsLinkable s = link u code in
+      let k : IsLinkable s = link u code h.formed in
       let b : Behaves s place (asking u h.formed).cached = behaves u place h code in
       let loads : List ℕ = loads_from place.cores place.core (bundles_in (trail s)) (first_moment place.cores place.core
       (begun site input) values) in
@@ -107,7 +107,7 @@ module _ (u : PlainUnit) (place : Place) (h : IsRunnable u place) (code : IsCode
   pub names : (cycles : ℕ) → Names u place input values cycles
   names cycles =
       let x : Core = begun site input in
-      let k : IsLinkable s = link u code in
+      let k : IsLinkable s = link u code h.formed in
       let b : Behaves s place (asking u h.formed).cached = behaves u place h code in
       let far : ℕ = place.start + shape_bound (most_in_slot site) s in
       let limit : ℕ = cycles + far in

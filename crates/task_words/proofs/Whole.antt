@@ -124,9 +124,10 @@ module _ (u : PlainUnit) (place : Place) (input : List ℕ) (world : ℕ → ℕ
           → Comes values
       comes values given so =
           let g : Outcome = tree.straight u input world comm_of in
-          let m : Means place (code_of u) (asking u h.formed).cached (link u code) (behaves u place h code) slots among
+          let m : Means place (code_of u) (asking u h.formed).cached (link u code h.formed)
+          (behaves u place h code) slots among
           memory_of (Cached u (uses_apart h.formed)) (cached_own u (uses_apart h.formed)) world input values =
-          means place (code_of u) (asking u h.formed).cached (link u code) (behaves u place h code) slots among
+          means place (code_of u) (asking u h.formed).cached (link u code h.formed) (behaves u place h code) slots among
           memory_of (Cached u (uses_apart h.formed)) (cached_own u (uses_apart h.formed)) world input values given
           (λ loads words. all_apart u (uses_apart h.formed) by_stack (trail (code_of u)) (begun_at loads)
           (may_there u h.formed memory_of loads)) ports_begun own_begun board_begun so in

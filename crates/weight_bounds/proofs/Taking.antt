@@ -3,7 +3,7 @@ use Rattle.std.proofs.Common.{◌≡◌, ℕ, zero, suc, ◌+◌, ◌*◌, ◌<�
 use Rattle.std.specs.Prelude.{max, nat_lt}
 use Rattle.std.proofs.lemmas.Bool.{and_parts, ltb-true, cases_lt}
 use Rattle.sp_tree.specs.Formed.{slots_of}
-use Rattle.sp_tree.specs.Plain.{PlainSp, constant, frame_word, cell_word, array_word, before_one, between_two}
+use Rattle.sp_tree.specs.Plain.{PlainSp, array_word, before_one, between_two}
 use Rattle.sp_tree.specs.Statements.{PlainSpTarget, to_slot, to_cell, to_array, PlainStmt, masks, writes, calls, transfers, overruns, iterations, PlainStmts, no_stmt, stmt, one, joined, PlainFunction, no_function}
 use Rattle.sp_inline.specs.declared.room.Room.{Room}
 use Rattle.sp_inline.specs.Moved.{moved, args_moved, target_moved, stmt_moved, stmts_moved}

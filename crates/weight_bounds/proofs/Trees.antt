@@ -1,7 +1,7 @@
 -- Counts of statements: some iterations, and statements after others.
 use Rattle.std.proofs.Common.{◌≡◌, ◌+◌, ◌≤◌, List, [], ◌∷◌, arith}
 use Rattle.std.specs.Prelude.{max}
-use Rattle.sp_tree.specs.Plain.{PlainSp, constant, frame_word, cell_word, array_word, before_one, between_two}
+use Rattle.sp_tree.specs.Plain.{PlainSp, array_word, before_one, between_two}
 use Rattle.sp_tree.specs.Statements.{PlainStmt, masks, writes, calls, transfers, overruns, iterations, PlainStmts, no_stmt, stmt, joined}
 use Rattle.weight_bounds.specs.Trees.{expr_iterations, args_iterations, stmt_iterations, stmts_iterations, stmts_call_count}
 

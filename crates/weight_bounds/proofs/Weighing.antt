@@ -39,7 +39,7 @@ module _ (u : PlainUnit) (weights : List ℕ) (formed : is_formed u ≡ true)
   tree_weighed = record {
     formed = schedule_formed.formed_as (emitted u) (scheduled (emitted u)) refl
         (emit_formed.formed_as (emitted u) u refl formed)
-        (λ k below. emit.idle_as (emitted u) u refl k (omega (arith, below, codes_length u.functions)));
+        (λ k below. emit.idle_as (emitted u) u refl formed k (omega (arith, below, codes_length u.functions)));
     size = λ k below.
         (let there : k < length u.functions = omega (arith, below, as_many) in
         omega (

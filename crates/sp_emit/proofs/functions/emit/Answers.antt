@@ -23,15 +23,21 @@ returns-clause-preserves c = λ input shared comm backs constants words.
 
 pub returns-clause-slots : goal.returns-clause-slots
 returns-clause-slots c =
-    λ k below. idle_as (plain_shape c.in_ok-shape.shape) (plain_unit c.args.unit.now) c.in_ok-shape.ensures k below
+    λ k below. idle_as (plain_shape c.in_ok-shape.shape) (plain_unit c.args.unit.now) c.in_ok-shape.ensures
+    c.requires.formed k
+    below
 
 pub returns-clause-alone : goal.returns-clause-alone
 returns-clause-alone c =
-    λ k below. alone_as (plain_shape c.in_ok-shape.shape) (plain_unit c.args.unit.now) c.in_ok-shape.ensures k below
+    λ k below. alone_as (plain_shape c.in_ok-shape.shape) (plain_unit c.args.unit.now) c.in_ok-shape.ensures
+    c.requires.formed k
+    below
 
 pub returns-clause-steady : goal.returns-clause-steady
 returns-clause-steady c =
-    λ k below. steady_as (plain_shape c.in_ok-shape.shape) (plain_unit c.args.unit.now) c.in_ok-shape.ensures k below
+    λ k below. steady_as (plain_shape c.in_ok-shape.shape) (plain_unit c.args.unit.now) c.in_ok-shape.ensures
+    c.requires.formed k
+    below
 
 pub returns-clause-frames : goal.returns-clause-frames
 returns-clause-frames c = λ k below. frames_as (plain_shape c.in_ok-shape.shape) (plain_unit c.args.unit.now)
