@@ -5,35 +5,35 @@ ghost use Rattle.c_mentions.specs.Alone.{any_other};
 ghost use Rattle.c_mentions.specs.Tasks.{running};
 ghost use Rattle.slot_arbiter.specs.declared.table.TheConstants.{MOST_CORES};
 
-use crate::tasks::Task;
+use crate::tasks::{CoreTask, Mentioning};
 
 // whether a task may write into the communication memory of another core
-fn reaches(task: &Task<'_>, core: usize) -> bool
+fn reaches<P: Mentioning>(task: &CoreTask<P>, core: usize) -> bool
     requires { core < MOST_CORES }
-    ensures { result ≡ alone_specs.reaches core (running task.now) }
+    ensures { result ≡ alone_specs.reaches core (running P.items task.now) }
 {
     match task {
-        Task::Idle => false,
-        Task::Assembly => true,
-        Task::Program { program } => program.mentions.sends_to(core),
+        CoreTask::Idle => false,
+        CoreTask::Assembly => true,
+        CoreTask::C(program) => program.mentions().sends_to(core),
     }
 }
 
 // whether it may write into the words that all cores share
-fn writes_shared(task: &Task<'_>) -> bool
-    ensures { result ≡ alone_specs.writes_shared (running task.now) }
+fn writes_shared<P: Mentioning>(task: &CoreTask<P>) -> bool
+    ensures { result ≡ alone_specs.writes_shared (running P.items task.now) }
 {
     match task {
-        Task::Idle => false,
-        Task::Assembly => true,
-        Task::Program { program } => program.mentions.assigns_shared,
+        CoreTask::Idle => false,
+        CoreTask::Assembly => true,
+        CoreTask::C(program) => program.mentions().assigns_shared,
     }
 }
 
 // whether a task of another core reaches this one
-fn is_reached(core: usize, tasks: &[Task<'_>]) -> bool
+fn is_reached<P: Mentioning>(core: usize, tasks: &[CoreTask<P>]) -> bool
     requires { core < MOST_CORES }
-    ensures { result ≡ any_other core (alone_specs.reaches core) 0 (map running tasks.now) }
+    ensures { result ≡ any_other core (alone_specs.reaches core) 0 (map (running P.items) tasks.now) }
 {
     for (at, task) in tasks.iter().enumerate() {
         if at != core && reaches(task, core) {
@@ -44,8 +44,8 @@ fn is_reached(core: usize, tasks: &[Task<'_>]) -> bool
 }
 
 // whether a task of another core writes into the words that all cores share
-fn is_shared_written(core: usize, tasks: &[Task<'_>]) -> bool
-    ensures { result ≡ any_other core alone_specs.writes_shared 0 (map running tasks.now) }
+fn is_shared_written<P: Mentioning>(core: usize, tasks: &[CoreTask<P>]) -> bool
+    ensures { result ≡ any_other core alone_specs.writes_shared 0 (map (running P.items) tasks.now) }
 {
     for (at, task) in tasks.iter().enumerate() {
         if at != core && writes_shared(task) {
@@ -57,19 +57,20 @@ fn is_shared_written(core: usize, tasks: &[Task<'_>]) -> bool
 
 /// Whether the task of a core, 0 to 15, is a C program that is alone with the data that it uses: no other task can
 /// change what it mentions of `comm` and `shared`. The tasks of a job stand by their cores.
-pub fn is_alone(core: usize, tasks: &[Task<'_>]) -> bool
+pub fn is_alone<P: Mentioning>(core: usize, tasks: &[CoreTask<P>]) -> bool
     requires { core < MOST_CORES }
-    ensures { result ≡ alone_specs.is_alone core (map running tasks.now) }
+    ensures { result ≡ alone_specs.is_alone core (map (running P.items) tasks.now) }
 {
     let Some(task) = tasks.get(core) else {
         return false;
     };
     match task {
-        Task::Idle => false,
-        Task::Assembly => false,
-        Task::Program { program } => {
-            !(program.mentions.comm && is_reached(core, tasks))
-                && !(program.mentions.shared && is_shared_written(core, tasks))
+        CoreTask::Idle => false,
+        CoreTask::Assembly => false,
+        CoreTask::C(program) => {
+            let mentions = program.mentions();
+            !(mentions.comm && is_reached(core, tasks))
+                && !(mentions.shared && is_shared_written(core, tasks))
         }
     }
 }

@@ -26,5 +26,5 @@ mod worked;
 pub use alone::is_alone;
 pub use mentioned::Mentions;
 pub use programs::mentions_of;
-pub use tasks::{Program, Task};
+pub use tasks::{CoreTask, Mentioning};
 pub use worked::{worked_alone, worked_mentions, worked_sends};

@@ -1,34 +1,36 @@
-//! The tasks of a job, as far as their data is concerned.
+//! What the cores of a job run, as far as their data is concerned.
 ghost use Rattle.std.specs.Prelude.{◌≡◌};
-ghost use Rattle.c_tree.specs.Plain.{plain};
-ghost use Rattle.c_mentions.specs.Reported.{Tells};
+ghost use Rattle.c_mentions.specs.Tasks.{core_task};
 
-use crate::mentioned::Mentions;
-use crate::programs::mentions_of;
-use c_tree::Unit;
+/// A C program of which it is known what it mentions.
+pub trait Mentioning {
+    ghost use Rattle.std.specs.Prelude.{List};
+    ghost use Rattle.c_mentions.specs.Reported.{Tells};
+    ghost use Rattle.c_tree.specs.Plain.{PlainItem};
 
-/// A C program, and what it mentions.
-#[derive(Debug, Drop)]
-pub struct Program<'a> {
-    pub unit: &'a Unit,
-    pub mentions: Mentions,
-    pub ghost tells: { Tells mentions (plain unit.now) },
+    ghost items: { Self → List PlainItem };
+
+    /// What it mentions.
+    fn mentions(&self) -> crate::mentioned::Mentions
+        ensures { Tells result (items self.now) };
 }
 
 /// What a core of a job runs.
 #[derive(Debug, Drop)]
-pub enum Task<'a> {
+pub enum CoreTask<P> {
     Idle,
     Assembly,
-    Program { program: Program<'a> },
+    C(P),
 }
 
-impl<'a> Program<'a> {
-    /// A program, with what it mentions.
-    pub fn of(unit: &'a Unit) -> Program<'a>
-        ensures { result.unit.now ≡ unit.now }
+impl<P> CoreTask<P> {
+    /// What a core with a task runs: a C program, if it is one.
+    pub fn of(program: Option<P>) -> CoreTask<P>
+        ensures { result ≡ core_task program }
     {
-        let mentions = mentions_of(unit);
-        Program { unit, mentions }
+        match program {
+            Some(program) => CoreTask::C(program),
+            None => CoreTask::Assembly,
+        }
     }
 }

@@ -5,7 +5,8 @@ use Rattle.global_step.specs.declared.loaded.LoadedCore.{LoadedCore}
 use Rattle.global_step.specs.Machine.{first_core}
 use Rattle.tc_job.specs.declared.job.Job.{Job}
 use Rattle.job_tasks.specs.declared.tasks.CodedTask.{CodedTask}
-use Rattle.job_tasks.specs.declared.tasks.CoreTask.{CoreTask}
+use Rattle.c_mentions.specs.declared.tasks.CoreTask.{CoreTask}
+use Rattle.job_tasks.specs.declared.program.Program.{Program}
 use Rattle.job_tasks.specs.Tasks.{Coded, runs_on}
 use Rattle.job_tasks.specs.Coding.{runs, shown, all_shown}
 use Rattle.job_rows.specs.Machine.{core_with, cores_from}
@@ -35,7 +36,7 @@ next_loaded job core prefix pushed l coded more one count push grown is so_far =
     ∙ ap (cores_from job 0) (sym (map-append shown coded (one ∷ [])) ∙ sym (ap all_shown grown))
 
 -- what one more core runs stands after what the others run
-pub next_run : (tasks pushed : List CoreTask) (t : CoreTask) (coded : List (Option CodedTask)) (one : Option CodedTask)
+pub next_run : (tasks pushed : List (CoreTask Program)) (t : CoreTask Program) (coded : List (Option CodedTask)) (one : Option CodedTask)
     → pushed ≡ tasks ++ t ∷ [] → runs t ≡ runs_on (shown one)
     → map runs tasks ≡ map runs_on (all_shown coded) → map runs pushed ≡ map runs_on (all_shown (coded ++ one ∷ []))
 next_run tasks pushed t coded one push is so_far =

@@ -2,7 +2,10 @@
 use Rattle.std.proofs.Common.{◌≡◌, ℕ, zero, suc, ◌+◌, ◌<◌, List, [], ◌∷◌, ◌++◌, length, map, take, get_or, IfSome, refl, sym, ap, ◌∙◌, subst, arith, length-take}
 use Rattle.std.proofs.lemmas.List.{length-map, map-append, take_all}
 use Rattle.std.proofs.lemmas.Option.{slice_get_read}
-use Rattle.c_mentions.specs.Alone.{Running}
+use Rattle.c_mentions.specs.Alone.{Running, idle, assembly, program}
+use Rattle.c_mentions.specs.Tasks.{running as mentioned}
+use Rattle.c_mentions.specs.declared.tasks.CoreTask.TheVariants as tasks
+use Rattle.c_tree.specs.Plain.{plain}
 use Rattle.shared_order.specs.Machine.{State, cycled}
 use Rattle.patmos_core.specs.declared.cpu.Core.{Core as Cpu}
 use Rattle.patmos_model.specs.Range.{InRange}
@@ -14,12 +17,21 @@ use Rattle.global_step.specs.Machine.{first_core, core_among, machine, at_limit}
 use Rattle.tc_run.specs.Final.{IsFinalCore, AreFinal}
 use Rattle.tc_job.specs.declared.job.Job.{Job}
 use Rattle.tc_report.specs.declared.rows.Row.{Row}
-use Rattle.job_tasks.specs.declared.tasks.CoreTask.{CoreTask}
+use Rattle.c_mentions.specs.declared.tasks.CoreTask.{CoreTask}
+use Rattle.job_tasks.specs.declared.program.Program.{Program}
 use Rattle.job_tasks.specs.Coding.{runs}
 use Rattle.job_rows.specs.Machine.{core_in, machine_of}
 use Rattle.job_rows.specs.Rows.{row_of, rows_from, rows_of, running}
 use Rattle.job_rows.specs.Loading.{IsLoadedFor}
 use Rattle.job_tasks.specs.Tasks.{Runs}
+
+-- what the cores run, as far as their data is concerned
+pub same_running : (tasks : List (CoreTask Program))
+    → map (mentioned (λ (p : Program). plain p.checked.unit)) tasks ≡ map running (map runs tasks)
+same_running [] = refl
+same_running (tasks.Idle ∷ rest) = ap (λ l. idle ∷ l) (same_running rest)
+same_running (tasks.Assembly ∷ rest) = ap (λ l. assembly ∷ l) (same_running rest)
+same_running (tasks.C p ∷ rest) = ap (λ l. program (plain p.checked.unit) ∷ l) (same_running rest)
 
 -- one more row stands after the others
 rows_from-push : (limit trace : ℕ) (all : List Running) (core : ℕ) (rs : List Runs) (r : Runs) (m : State Core)
@@ -33,17 +45,17 @@ rows_from-push limit trace all core (q ∷ rs) r m =
     ∙ ap (λ n. rows_from limit trace all (core + 1) rs m ++ row_of limit trace all n r (m.cores n) ∷ []) next)
 
 -- the rows of the first cores, which run the first of these tasks
-abbrev pub rows_below : List Running → List CoreTask → ℕ → Machine → List Row
+abbrev pub rows_below : List Running → List (CoreTask Program) → ℕ → Machine → List Row
 rows_below all tasks n m = rows_from m.limit m.trace all 0 (map runs (take n tasks)) (at_limit m)
 
-take_more : (tasks : List CoreTask) (n : ℕ) (t : CoreTask) → n < length tasks → t ≡ get_or tasks n t
+take_more : (tasks : List (CoreTask Program)) (n : ℕ) (t : CoreTask Program) → n < length tasks → t ≡ get_or tasks n t
     → take (suc n) tasks ≡ take n tasks ++ t ∷ []
 take_more [] n t below is = absurd (omega (arith, below))
 take_more (u ∷ tasks) zero t below is = ap (λ x. x ∷ []) (sym is)
 take_more (u ∷ tasks) (suc n) t below is = ap (λ l. u ∷ l) (take_more tasks n t (omega (arith, below)) is)
 
 -- one more row
-pub next_row : (cores : List Cpu) (all : List Running) (tasks : List CoreTask) (i : ℕ) (c : Cpu) (t : CoreTask)
+pub next_row : (cores : List Cpu) (all : List Running) (tasks : List (CoreTask Program)) (i : ℕ) (c : Cpu) (t : CoreTask Program)
     (rows pushed : List Row) (row : Row) → i < length cores → length tasks ≡ length cores
     → c ≡ get_or cores i c → t ≡ get_or tasks i t → pushed ≡ rows ++ row ∷ []
     → ((m : Machine) → AreFinal m cores → rows ≡ rows_below all tasks i m)
@@ -64,14 +76,12 @@ next_row cores all tasks i c t rows pushed row below count item task push so_far
     ∙ (let more : suc i ≡ i + 1 = omega arith in ap (λ n. rows_below all tasks n m) more)
 
 -- after the last the rows are those of all cores
-pub all_rows : (cores : List Cpu) (all : List Running) (tasks : List CoreTask) (rows : List Row) → length tasks
-    ≡ length cores → all ≡ map running (map runs tasks)
-    → ((m : Machine) → AreFinal m cores → rows ≡ rows_below all tasks (length cores) m)
+pub all_rows : (cores : List Cpu) (tasks : List (CoreTask Program)) (rows : List Row) → length tasks ≡ length cores
+    → ((m : Machine) → AreFinal m cores → rows ≡ rows_below (map running (map runs tasks)) tasks (length cores) m)
     → (m : Machine) → AreFinal m cores → rows ≡ rows_of m.limit m.trace (map runs tasks) (at_limit m)
-all_rows cores all tasks rows count is so_far m final =
-    so_far m final ∙ ap (λ l. rows_from m.limit m.trace all 0 (map runs l) (at_limit m)) (take_all (length cores) tasks
-    (omega (arith, count)))
-    ∙ ap (λ a. rows_from m.limit m.trace a 0 (map runs tasks) (at_limit m)) is
+all_rows cores tasks rows count so_far m final =
+    so_far m final ∙ ap (λ l. rows_from m.limit m.trace (map running (map runs tasks)) 0 (map runs l) (at_limit m))
+    (take_all (length cores) tasks (omega (arith, count)))
 
 -- the cores that were loaded are those that the job asks for
 among_in : (ls : List LoadedCore) (k : ℕ) → core_among ls k ≡ core_in (map first_core ls) k

@@ -7,7 +7,7 @@
 //! with the data that it uses, whether a loop ran past its count, and the words of its array `out`. [`report_text_of`] is
 //! the text of these rows, and [`status_of`] the status under which it is written.
 //!
-//! [`bare_row`], [`all_running`] and [`is_flagged`] serve who tells of one core alone. [`worked_run`] shows the definitions
+//! [`bare_row`], [`runs_alone`] and [`is_flagged`] serve who tells of one core alone. [`worked_run`] shows the definitions
 //! on a small job.
 //!
 //! What its words mean stands in [the glossary](../../../docs/GLOSSARY.md).
@@ -20,4 +20,4 @@ mod rows;
 
 pub use laws::{loaded_machine_is_the_jobs, worked_run};
 pub use loading::loaded_of;
-pub use rows::{all_running, bare_row, is_flagged, report_text_of, rows_of, status_of};
+pub use rows::{bare_row, is_flagged, report_text_of, rows_of, runs_alone, status_of};

@@ -9,8 +9,9 @@ ghost use Rattle.job_tasks.specs.Coding.{runs, shown, all_shown, IsAmong};
 ghost use Rattle.job_rows.specs.Loading.{IsLoadedFor, IsPlaced};
 ghost use Rattle.job_tasks.specs.Tasks.{runs_on};
 
+use c_mentions::CoreTask;
 use global_step::{Loaded, LoadedCore};
-use job_tasks::{CodedTask, CoreTask, RangedJob};
+use job_tasks::{CodedTask, Program, RangedJob};
 use patmos_code::Image;
 use std::alloc::Global;
 use tc_job::Task;
@@ -21,7 +22,7 @@ pub fn loaded_of(
     alloc: Global,
     job: &RangedJob,
     coded: Vec<Option<CodedTask<'_>>>,
-) -> Result<(Loaded, Vec<CoreTask>), OutOfMemory>
+) -> Result<(Loaded, Vec<CoreTask<Program>>), OutOfMemory>
     requires count { length coded.items ≡ job.now.cores }
     requires among { All (IsAmong job.now.cores) coded.items }
     ensures tasks { IfOk result (λ r. length r.1.items ≡ job.now.cores) }
@@ -42,7 +43,7 @@ fn cores_of(
     alloc: Global,
     job: &RangedJob,
     coded: Vec<Option<CodedTask<'_>>>,
-) -> Result<(Vec<LoadedCore>, Vec<CoreTask>), OutOfMemory>
+) -> Result<(Vec<LoadedCore>, Vec<CoreTask<Program>>), OutOfMemory>
     requires count { length coded.items ≡ job.now.cores }
     requires among { All (IsAmong job.now.cores) coded.items }
     ensures cores { IfOk result (λ r. map first_core r.0.items
@@ -70,7 +71,7 @@ fn core_with(
     job: &RangedJob,
     core: u32,
     coded: Option<CodedTask<'_>>,
-) -> Result<(LoadedCore, CoreTask), OutOfMemory>
+) -> Result<(LoadedCore, CoreTask<Program>), OutOfMemory>
     requires number { core < job.now.cores }
     requires among { IsAmong job.now.cores coded }
     ensures core { IfOk result (λ r. first_core r.0 ≡ specs.core_with job.now core (shown coded.entry)) }

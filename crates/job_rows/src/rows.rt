@@ -4,7 +4,7 @@ ghost use Rattle.tc_report.specs.Report.{report_text};
 ghost use Rattle.global_step.specs.Loaded.{Machine};
 ghost use Rattle.global_step.specs.Machine as machine;
 ghost use Rattle.global_step.specs.Machine.{at_limit};
-ghost use Rattle.c_mentions.specs.Tasks.{running as mentioned};
+ghost use Rattle.c_mentions.specs.Alone as alone;
 ghost use Rattle.c_tree.specs.Plain.{plain};
 ghost use Rattle.tc_run.specs.Final.{IsFinalCore, AreFinal};
 ghost use Rattle.job_tasks.specs.Coding.{runs};
@@ -13,9 +13,8 @@ ghost use Rattle.job_rows.specs.Rows as specs;
 ghost use Rattle.slot_arbiter.specs.declared.table.TheConstants.{MOST_CORES};
 
 use crate::output::{Output, output_in};
-use c_mentions as mentions;
-use c_mentions::is_alone;
-use job_tasks::{CoreTask, Program, RangedJob};
+use c_mentions::{CoreTask, is_alone};
+use job_tasks::{Program, RangedJob};
 use patmos_core::{Core, CoreState};
 use std::alloc::Global;
 use tc_io::{DONE, TASK_EARLY};
@@ -24,67 +23,50 @@ use tc_run::{accesses_of, dropped_of, outcome_of};
 use tc_word::{List, OutOfMemory};
 
 /// The rows of the cores of a machine at its limit, which run these tasks.
-pub fn rows_of(alloc: Global, cores: &[Core], tasks: &[CoreTask]) -> Result<Vec<Row>, OutOfMemory>
+pub fn rows_of(
+    alloc: Global,
+    cores: &[Core],
+    tasks: &[CoreTask<Program>],
+) -> Result<Vec<Row>, OutOfMemory>
     requires few { length cores.now ≤ MOST_CORES }
     requires count { length tasks.now ≡ length cores.now }
     ensures { IfOk result (λ rows. (m : Machine) → AreFinal m cores.now
         → rows.items ≡ specs.rows_of m.limit m.trace (map runs tasks.now) (at_limit m)) }
 {
-    let all = all_running(alloc, tasks)?;
     let mut rows = Vec::new(alloc);
     for number in 0..cores.len() {
-        rows.push(row_of(alloc, &all, number, &tasks[number], &cores[number])?)?;
+        rows.push(row_of(alloc, tasks, number, &tasks[number], &cores[number])?)?;
     }
     Ok(rows)
-}
-
-/// What all cores run, as far as their data is concerned.
-pub fn all_running<'a>(
-    alloc: Global,
-    tasks: &'a [CoreTask],
-) -> Result<Vec<mentions::Task<'a>>, OutOfMemory>
-    ensures { IfOk result (λ all. map mentioned all.items ≡ map specs.running (map runs tasks.now)) }
-{
-    let mut all = Vec::new(alloc);
-    for task in tasks {
-        all.push(running(task))?;
-    }
-    Ok(all)
-}
-
-fn running(task: &CoreTask) -> mentions::Task<'_>
-    ensures { mentioned result ≡ specs.running (runs task.now) }
-{
-    match task {
-        CoreTask::Idle => mentions::Task::Idle,
-        CoreTask::Assembly => mentions::Task::Assembly,
-        CoreTask::C(program) => mentions::Task::Program {
-            program: mentions::Program {
-                unit: &program.checked.unit,
-                mentions: program.mentions,
-            },
-        },
-    }
 }
 
 // the row of one of them, among what all run
 fn row_of(
     alloc: Global,
-    all: &[mentions::Task<'_>],
+    all: &[CoreTask<Program>],
     number: usize,
-    task: &CoreTask,
+    task: &CoreTask<Program>,
     core: &Core,
 ) -> Result<Row, OutOfMemory>
     requires few { number < MOST_CORES }
     ensures { IfOk result (λ row. (m : Machine) (k : ℕ) → IsFinalCore m k core.now
-        → row ≡ specs.row_of m.limit m.trace (map mentioned all.now) number (runs task.now) ((at_limit m).cores k)) }
+        → row ≡ specs.row_of m.limit m.trace (map specs.running (map runs all.now)) number (runs task.now)
+        ((at_limit m).cores k)) }
 {
     let row = plain_row(alloc, core)?;
     match task {
         CoreTask::Idle => Ok(row),
         CoreTask::Assembly => Ok(row),
-        CoreTask::C(program) => with_program(alloc, row, is_alone(number, all), program, core),
+        CoreTask::C(program) => with_program(alloc, row, runs_alone(number, all), program, core),
     }
+}
+
+/// Whether the task of a core is a C program that is alone with its data among what all cores run.
+pub fn runs_alone(number: usize, all: &[CoreTask<Program>]) -> bool
+    requires few { number < MOST_CORES }
+    ensures { result ≡ alone.is_alone number (map specs.running (map runs all.now)) }
+{
+    is_alone(number, all)
 }
 
 // the row of a core without a program

@@ -7,8 +7,8 @@ use Rattle.patmos_code.specs.Images.{Parts}
 use Rattle.sp_shape.specs.Shown.{plain_shape}
 use Rattle.tc_job.specs.Ranges.{IsTaskAmong}
 use Rattle.job_tasks.specs.declared.tasks.CodedTask.{CodedTask}
-use Rattle.job_tasks.specs.declared.tasks.CoreTask.{CoreTask}
-use Rattle.job_tasks.specs.declared.tasks.CoreTask.TheVariants as tasks
+use Rattle.c_mentions.specs.declared.tasks.CoreTask.{CoreTask}
+use Rattle.c_mentions.specs.declared.tasks.CoreTask.TheVariants as tasks
 use Rattle.job_tasks.specs.declared.tasks.MadeTask.{MadeTask}
 use Rattle.job_tasks.specs.declared.program.Program.{Program}
 use Rattle.job_tasks.specs.Tasks.{Bounded, Made, Coded, Runs, nothing, assembly, program}
@@ -20,7 +20,7 @@ abbrev pub made_of : MadeTask → Made
 made_of m = record { image = m.image; program = option_map bounded m.program }
 
 -- what a core runs
-abbrev pub runs : CoreTask → Runs
+abbrev pub runs : CoreTask Program → Runs
 runs tasks.Idle = nothing
 runs tasks.Assembly = assembly
 runs (tasks.C p) = program (bounded p)

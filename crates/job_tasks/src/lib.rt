@@ -36,4 +36,4 @@ pub use laws::limits;
 pub use program::Program;
 pub use ranged::RangedJob;
 pub use refusal::{CoreRefusal, Halt, Refusal, refusal_answer};
-pub use tasks::{CodedTask, CoreTask, MadeTask, coded_tasks};
+pub use tasks::{CodedTask, MadeTask, coded_tasks};

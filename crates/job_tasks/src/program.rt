@@ -2,7 +2,7 @@
 ghost use Rattle.c_mentions.specs.Reported.{Tells};
 ghost use Rattle.c_tree.specs.Plain.{plain};
 
-use c_mentions::Mentions;
+use c_mentions::{Mentioning, Mentions};
 use c_tree::Checked;
 use sp_shape::Shape;
 
@@ -16,4 +16,14 @@ pub struct Program {
     pub persist: u64,
     pub shape: Shape,
     pub ghost tells: { Tells mentions (plain checked.unit) },
+}
+
+impl Mentioning for Program {
+    ghost use Rattle.c_tree.specs.Plain.{plain};
+
+    ghost items = { λ p. plain p.checked.unit };
+
+    fn mentions(&self) -> Mentions {
+        self.mentions
+    }
 }

@@ -2,7 +2,7 @@
 ghost use Rattle.std.specs.Prelude.{◌≡◌, All, None, IfOk, IfSome, length, option_map};
 ghost use Rattle.tc_job.specs.Ranges.{IsTaskAmong};
 ghost use Rattle.job_tasks.specs.Tasks as specs;
-ghost use Rattle.job_tasks.specs.Coding.{bounded, made_of, runs, shown, all_shown, HasShape, HasShapeOn, IsAmong};
+ghost use Rattle.job_tasks.specs.Coding.{made_of, shown, all_shown, HasShape, HasShapeOn, IsAmong};
 ghost use Rattle.job_tasks.specs.Gives.{Gives};
 ghost use Rattle.job_tasks.specs.Making.{IsCompiled, IsMadeOn, AreMade};
 
@@ -28,26 +28,6 @@ pub struct MadeTask {
 pub struct CodedTask<'a> {
     pub task: &'a Task,
     pub made: MadeTask,
-}
-
-/// What a core runs, as far as its report is concerned.
-#[derive(Drop)]
-pub enum CoreTask {
-    Idle,
-    Assembly,
-    C(Program),
-}
-
-impl CoreTask {
-    /// What a core with such a program runs.
-    pub fn of(program: Option<Program>) -> CoreTask
-        ensures { runs result ≡ specs.runs_by (option_map bounded program) }
-    {
-        match program {
-            Some(program) => CoreTask::C(program),
-            None => CoreTask::Assembly,
-        }
-    }
 }
 
 /// The tasks of a job, each made, by the numbers of their cores: one pass over the cores, which the first refused task

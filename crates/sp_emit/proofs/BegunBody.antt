@@ -1,6 +1,6 @@
 -- The statements of a body that have code: all, or all but the first one. What holds of all holds of them.
-use Rattle.std.proofs.Common.{◌≡◌, ℕ, ◌≤◌, Bool, true, false, if◌then◌else◌, List, arith}
-use Rattle.std.specs.Prelude.{is_some}
+use Rattle.std.proofs.Common.{◌≡◌, ℕ, ◌≤◌, Bool, true, false, if◌then◌else◌, List, refl, true≢false, arith}
+use Rattle.std.specs.Prelude.{is_some, ◌||◌}
 use Rattle.std.proofs.lemmas.Bool.{and_parts}
 use Rattle.sp_tree.specs.Formed.{stmt_formed, stmts_formed, stmts_levels}
 use Rattle.sp_tree.specs.Cost.{stmts_cost}
@@ -10,7 +10,6 @@ use Rattle.sp_emit.specs.Counts.{HasStmtsCounts}
 use Rattle.sp_emit.specs.Flags.{behind_first, begun_body, stmts_spared}
 use Rattle.sp_emit.specs.Means.{HasStmtsConstants}
 use Rattle.sp_emit.specs.Places.{flag_of, stmts_least}
-use Rattle.sp_emit.proofs.Uncalled.{neither}
 use Rattle.sp_emit.specs.declared.stands.Flags.{Flags}
 
 pub begun_is : (P : PlainStmts → Type 0) (flags : Flags) (f : PlainFunction) → P f.body → P (behind_first f.body)
@@ -42,6 +41,10 @@ spared tops (stmt t rest) = omega arith
 costs : (ts : PlainStmts) → stmts_cost (behind_first ts) ≤ stmts_cost ts
 costs no_stmt = omega arith
 costs (stmt t rest) = omega arith
+
+pub neither : (a b : Bool) → (a || b) ≡ false → (a ≡ false) × (b ≡ false)
+neither true b none = absurd (true≢false none)
+neither false b none = (refl, none)
 
 uncalled : (ts : PlainStmts) → stmts_call ts ≡ false → stmts_call (behind_first ts) ≡ false
 uncalled no_stmt h = h

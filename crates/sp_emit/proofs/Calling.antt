@@ -28,8 +28,8 @@ use Rattle.sp_emit.specs.declared.registers.TheConstants.{RESULT, MASK, FIRST, O
 use Rattle.sp_tree.specs.Need.{need}
 use Rattle.sp_shape.proofs.Whole.{once_whole}
 use Rattle.sp_emit.specs.Places.{flag_of, word_of, read_word, mask_test, told_at, args_least, stack_word}
-use Rattle.sp_emit.proofs.Calm.{is_calm_trail, calm_run}
-use Rattle.sp_emit.proofs.CalmCode.{own_free}
+use Rattle.sp_emit.proofs.Calm.{calm, calm_done, own_free}
+use Rattle.sp_emit.proofs.Effects.{AreIn}
 use Rattle.sp_emit.proofs.Words.{value_word}
 use Rattle.sp_emit.proofs.FlagWords.{shown_plain, shown_still, shown_kept, handed_is, flag_range, shown_flag, is_none_off}
 use Rattle.sp_emit.proofs.WordPlaces.{read_is, read_leaves, read_others}
@@ -145,7 +145,7 @@ hands_mask homes slots mask s n within most named x =
         let value : flag (so p n) ≡ s.frame mask = sym (shown_flag homes mask p n is) ∙ x.shows.frame mask named in
         let free = own_free MASK homes.first MASK (omega arith) (omega arith) within in
         record {
-          keeps = calm_run by_words MASK homes.first (all_done bs) n (omega arith) x.whole (grind (arith, free));
+          keeps = calm_done by_words MASK homes.first bs n (omega arith) x.whole (grind (arith, free));
           masked = written_where by_words p MASK 0 (AluImm imm.Add MASK 0 0) n1 h1 (omega arith) (omega arith)
               (ap (λ z. write.Register MASK ((z + 0) % 2 ^ 32)) h1.fits.zero) refl refl
               ∙ ap (λ b. if b then 0 else held MASK n1) told ∙ ap (λ v. if so p n then 0 else v) one
@@ -169,9 +169,8 @@ hands_mask homes slots mask s n within most named x =
         did_with_short by_words imm.Xor MASK MASK 1 u1 h1 in
         let free = own_free MASK homes.first MASK (omega arith) (omega arith) within in
         record {
-          keeps = calm_run by_words MASK homes.first (all_done bs) n (omega arith) x.whole
-              (read_is (λ b. is_calm_trail MASK homes.first (all_done (b ∷ with_short always imm.Xor MASK MASK 1 ∷ []))
-              ≡ true) homes.first MASK mask (grind (arith, free)) (λ out. grind (arith, free)));
+          keeps = calm_done by_words MASK homes.first bs n (omega arith) x.whole
+              (read_is (λ b. AreIn (calm MASK homes.first) (b ∷ with_short always imm.Xor MASK MASK 1 ∷ [])) homes.first MASK mask (grind (arith, free)) (λ out. grind (arith, free)));
           masked = ap (held MASK) steps ∙ got MASK w u1 h1 (omega arith) (omega arith) ∙ ap (λ b. bit_xor b 1) value;
           others = λ y lt other. ap (held y) steps ∙ kept MASK w y u1 h1 lt other
               ∙ read_others by_words homes.first MASK mask y n x.whole lt other;

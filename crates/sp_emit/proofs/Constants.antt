@@ -21,7 +21,7 @@ use Rattle.sp_tree.specs.MaskTests.{is_equal, is_word, tests_mask}
 use Rattle.sp_emit.specs.Truths.{bits_of, is_test, test_of, tested_code, is_same, word_flag, flag_at, joins, is_truth, unless_stands, join, truth_code, before_flag, flag_set, flag_by, flag_code, is_frame_word, seeks, sought, operands_stood, both_of, is_condition, func_in, spares_second, pairs, kept_code, joining_code, paired_code, unjoined_code}
 use Rattle.sp_tree.specs.MaskTests.{is_one}
 use Rattle.sp_emit.proofs.FlagsStand.{Stands, stands_of, all_stand}
-use Rattle.sp_emit.proofs.Uncalled.{neither}
+use Rattle.sp_emit.proofs.BegunBody.{neither}
 use Rattle.sp_emit.proofs.Held.{short_below}
 use Rattle.sp_emit.proofs.Lasts.{Gives, write_is}
 use Rattle.sp_emit.proofs.Operands.{mask_is}

@@ -15,12 +15,13 @@ use Rattle.sp_emit.specs.Places.{word_of, fetch_word, fetched_at, keep_word, sta
 use Rattle.sp_emit.specs.Statements.{iterations_tail}
 use Rattle.sp_emit.specs.declared.registers.TheConstants.{SPARE, MORE}
 use Rattle.sp_emit.proofs.Asking.{same_ways, back_again, again, no_more, counts_down, tests_count}
-use Rattle.sp_emit.proofs.Calm.{calm_run}
+use Rattle.sp_emit.proofs.Calm.{calm_done}
 use Rattle.sp_emit.specs.Flags.{no_flags}
 use Rattle.sp_emit.specs.declared.stands.Homes.{Homes}
-use Rattle.sp_emit.proofs.Low.{AreLow, all_pass, low_within}
+use Rattle.sp_emit.proofs.Low.{low_within}
+use Rattle.sp_emit.proofs.Effects.{AreIn}
 use Rattle.sp_emit.proofs.Walks.{tails}
-use Rattle.sp_emit.proofs.Passing.{Passes, passes_done, enough_still}
+use Rattle.sp_emit.proofs.Passing.{Ready, ready_still, low, Passes, passes_done}
 use Rattle.sp_emit.proofs.WordPlaces.{fetch_is, fetched_some, fetched_few, fetch_leaves, keep_is, keep_leaves, behind_word, word_still}
 
 -- the counter's word after a body that leaves it
@@ -67,7 +68,7 @@ counter_counted from homes counter n m told some whole few is word =
     let h3 = once_whole from (keep_word homes counter) m2 h2 in
     let back = keep_leaves from homes counter m2 h2 few in
     let behind =
-    calm_run from SPARE homes (all_done (compare_short cmp.Neq MORE left 0 ∷ [])) m3 (omega arith) h3 refl in
+    calm_done from SPARE homes (compare_short cmp.Neq MORE left 0 ∷ []) m3 (omega arith) h3 refl in
     let m4 = once from (compare_short cmp.Neq MORE left 0) m3 in
     record {
       whole = behind.whole;
@@ -76,12 +77,11 @@ counter_counted from homes counter n m told some whole few is word =
       ways = same_ways from (counter_tested homes counter) m (tested_calm homes counter);
     }
 
-tail_low : (homes counter : ℕ) → AreLow (homes + (counter + 1)) (stack_word homes (counter + 1))
+tail_low : (homes counter : ℕ) → AreIn (low (homes + (counter + 1)) (stack_word homes (counter + 1)))
     (iterations_tail homes counter)
 tail_low homes counter =
     let places : Homes = record { first = homes; flags = no_flags } in
-    all_pass (homes + (counter + 1)) (stack_word homes (counter + 1)) (omega arith) (iterations_tail homes counter)
-    (tails (low_within places counter (omega arith)) counter (omega arith) refl)
+    tails (low_within places counter) counter (omega arith) refl
 
 -- a tail, and what it leaves of the counter
 record TailCounted (homes counter n : ℕ) (m t : Run) : Type 0 where
@@ -94,7 +94,7 @@ tail_counted : (from : Sources) (homes counter n : ℕ) (m : Run) → from.stack
 tail_counted from homes counter n m told some whole few is word =
     let c = counter_counted from homes counter n m told some whole few is word in
     let t = run from (all_done (counter_tested homes counter)) m in
-    let k = calm_run from SPARE homes (all_done (back_again MORE)) t (omega arith) c.whole refl in
+    let k = calm_done from SPARE homes (back_again MORE) t (omega arith) c.whole refl in
     record {
       keeps = passes_done from (homes + (counter + 1)) (stack_word homes (counter + 1)) (iterations_tail homes counter)
           m (omega (arith, few)) whole (tail_low homes counter);
@@ -117,28 +117,28 @@ asks_no_more from homes counter m told some whole few is =
 
 -- all iterations of a loop whose body leaves the counter
 pub counter_iterations : (from : Sources) (f : ℕ → List Step) (Body : Run → Type 0) (body : PlainParts)
-    (homes counter low : ℕ) → from.stack ≡ true → 1 ≤ homes → counter < 128
-    → ((m : Run) → IsWhole m → low ≤ m.st → Body m) → ((m : Run) → IsWhole m → low ≤ m.st
-    → Passes (homes + counter) (stack_word homes counter) m (run from (parts_trail f body) m))
-    → (n : ℕ) → n < 2 ^ 32 → (m : Run) → IsWhole m → low ≤ m.st → word_of homes counter m ≡ n
+    (homes counter least : ℕ) → from.stack ≡ true → 1 ≤ homes → counter < 128
+    → ((m : Run) → Ready least m → Body m)
+    → ((m : Run) → Ready least m → Passes (homes + counter) (stack_word homes counter) m (run from (parts_trail f body) m))
+    → (n : ℕ) → n < 2 ^ 32 → (m : Run) → Ready least m → word_of homes counter m ≡ n
     → AllIterations (run from) Body (parts_trail f body) (iterations_tail homes counter) n m
-counter_iterations from f Body body homes counter low told some few each passes zero word m whole enough is = tt
-counter_iterations from f Body body homes counter low told some few each passes (suc zero) word m whole enough is =
-    let p = passes m whole enough in (
-      each m whole enough,
+counter_iterations from f Body body homes counter least told some few each passes zero word m ready is = tt
+counter_iterations from f Body body homes counter least told some few each passes (suc zero) word m ready is =
+    let p = passes m ready in (
+      each m ready,
       asks_no_more from homes counter (run from (parts_trail f body) m) told some p.whole few
           (still homes counter 1 m (run from (parts_trail f body) m) p is),
     )
-counter_iterations from f Body body homes counter low told some few each passes (suc (suc n)) word m whole enough is =
-    let p = passes m whole enough in
+counter_iterations from f Body body homes counter least told some few each passes (suc (suc n)) word m ready is =
+    let p = passes m ready in
     let t = run from (parts_trail f body) m in
     let c = tail_counted from homes counter (suc n) t told some p.whole few (still homes counter (suc (suc n)) m t p is)
     word in
     let u = run from (all_done (iterations_tail homes counter)) t in (
-      each m whole enough,
+      each m ready,
       asks_again from homes counter n t told some p.whole few (still homes counter (suc (suc n)) m t p is) word,
       subst (AllIterations (run from) Body (parts_trail f body) (iterations_tail homes counter) (suc n))
           (sym (run_append from (parts_trail f body) (all_done (iterations_tail homes counter)) m))
-          (counter_iterations from f Body body homes counter low told some few each passes (suc n) (omega (arith, word))
-          u c.keeps.whole (enough_still c.keeps (enough_still p enough)) c.word),
+          (counter_iterations from f Body body homes counter least told some few each passes (suc n) (omega (arith, word))
+          u (ready_still (ready_still ready p) c.keeps) c.word),
     )

@@ -1,40 +1,61 @@
--- What holds of each bundle of code.
-use Rattle.std.proofs.Common.{◌≡◌, Bool, true, List, refl}
-use Rattle.std.specs.List.{list_all}
-use Rattle.std.proofs.lemmas.Bool.{and_parts, and_from}
+-- What holds of each bundle of a function: it is one instruction, which is always done where it may have a transaction
+-- with main memory, and takes no more words of the stack than the tree's frame has.
+use Rattle.std.proofs.Common.{◌≡◌, ℕ, ◌<◌, Bool, true, List, refl, arith}
+use Rattle.std.specs.Prelude.{nat_le, is_none}
+use Rattle.std.proofs.lemmas.Bool.{le-leb}
 use Rattle.patmos_instr.specs.Bundles.{PlainBundle}
-use Rattle.sp_shape.specs.Bundles.{part_all, parts_all}
-use Rattle.sp_shape.specs.Parts.{PlainPart, straight, repeats, calls_to, leaves, PlainParts, no_part, part, one, joined}
-use Rattle.sp_shape.proofs.Lists.{all_weaker}
+use Rattle.patmos_instr.specs.declared.functions.StackFunc.{StackFunc}
+use Rattle.patmos_instr.specs.declared.functions.StackFunc.TheVariants.{Sres, Sens}
+use Rattle.sp_tree.specs.Statements.{PlainFunction}
+use Rattle.sp_shape.specs.Bundles.{is_steady, parts_all}
+use Rattle.sp_shape.proofs.Along.{have_so}
+use Rattle.sp_emit.specs.Chains.{takes_at_most}
+use Rattle.sp_emit.specs.Flags.{begun_body}
+use Rattle.sp_emit.specs.Functions.{function_code, frame_words}
+use Rattle.sp_emit.specs.declared.registers.TheConstants.{FLAGS}
+use Rattle.sp_emit.specs.declared.stands.Homes.{Homes}
+use Rattle.sp_emit.proofs.Codes.{words_few}
+use Rattle.sp_emit.proofs.Effects.{Footprint, is_in, any, everything}
+use Rattle.sp_emit.proofs.Walks.{CodeIn, IsFull, function_in, stmts_flow}
+use Rattle.sp_emit.proofs.Windows.{InWindow}
 
--- ---- each bundle
+-- a footprint that may leave out predicates and stack instructions alone
+pub full : (tells : ℕ → Bool) (passing : (p : ℕ) → p < FLAGS → tells p ≡ true) (stacks : StackFunc → ℕ → Bool)
+    → ((count : ℕ) → stacks Sens count ≡ true)
+    → IsFull (record everything { tells = tells; stacks = stacks; passing = passing })
+full tells passing stacks brings = record {
+  wide = record { sets = λ r. refl; reads = λ word. refl; stores = λ word. refl };
+  flows = record { branches = refl; calls = refl; brings = brings };
+  loads = refl;
+  writes = refl;
+  specials = refl;
+  returns = refl;
+}
 
-pub each_joined : (holds : PlainBundle → Bool) (a b : PlainParts) → parts_all holds a ≡ true → parts_all holds b ≡ true
-    → parts_all holds (joined a b) ≡ true
-each_joined holds no_part b x y = y
-each_joined holds (part p a) b x y =
-    let parts = and_parts (part_all holds p) (parts_all holds a) x in
-    and_from (part_all holds p) (parts_all holds (joined a b)) parts.0 (each_joined holds a b parts.1 y)
+-- no more words of the stack are taken
+abbrev takes_few : ℕ → StackFunc → ℕ → Bool
+takes_few most Sres count = nat_le count most
+takes_few most _ count = true
 
-pub each_lone : (holds : PlainBundle → Bool) (bs : List PlainBundle) → list_all holds bs ≡ true
-    → parts_all holds (one (straight bs)) ≡ true
-each_lone holds bs x = and_from (list_all holds bs) true x refl
+abbrev taking : ℕ → Footprint
+taking most = record everything { stacks = takes_few most }
 
-mutual
-  part_so : (p q : PlainBundle → Bool) → ((b : PlainBundle) → p b ≡ true → q b ≡ true) → (a : PlainPart)
-      → part_all p a ≡ true
-      → part_all q a ≡ true
-  part_so p q so (straight bs) x = all_weaker p q so bs x
-  part_so p q so (repeats count body tail) x =
-      let parts = and_parts (parts_all p body) (list_all p tail) x in
-      and_from (parts_all q body) (list_all q tail) (each_so p q so body parts.0) (all_weaker p q so tail parts.1)
-  part_so p q so (calls_to k tail) x = all_weaker p q so tail x
-  part_so p q so (leaves tail) x = all_weaker p q so tail x
+module _ {homes : Homes} {tops : List ℕ} {fs : List PlainFunction} {number : ℕ} {f : PlainFunction}
+    (w : InWindow homes tops fs number f) where
+  whole : CodeIn (taking f.frame) any (function_code homes f)
+  whole = function_in (full any (λ p lt. refl) (takes_few f.frame) (λ count. refl)) any w (λ slot p is. refl)
+      (le-leb (frame_words homes.first f) f.frame (words_few homes.first f (omega (arith, w.parts.room)))) refl
+      (λ k earlier window called. refl) (stmts_flow (begun_body homes.flags f))
 
-  pub each_so : (p q : PlainBundle → Bool) → ((b : PlainBundle) → p b ≡ true → q b ≡ true) → (a : PlainParts)
-      → parts_all p a ≡ true
-      → parts_all q a ≡ true
-  each_so p q so no_part x = refl
-  each_so p q so (part a rest) x =
-      let parts = and_parts (part_all p a) (parts_all p rest) x in
-      and_from (part_all q a) (parts_all q rest) (part_so p q so a parts.0) (each_so p q so rest parts.1)
+  each : (holds : PlainBundle → Bool) → ((b : PlainBundle) → is_in (taking f.frame) b ≡ true → holds b ≡ true)
+      → parts_all holds (function_code homes f) ≡ true
+  each holds so = have_so (is_in (taking f.frame)) holds so any (function_code homes f) whole
+
+  pub function_steady : parts_all is_steady (function_code homes f) ≡ true
+  function_steady = each is_steady (λ b within. grind (arith, within))
+
+  pub function_alone : parts_all (λ b. is_none b.second) (function_code homes f) ≡ true
+  function_alone = each (λ b. is_none b.second) (λ b within. grind (arith, within))
+
+  pub function_takes : parts_all (takes_at_most f.frame) (function_code homes f) ≡ true
+  function_takes = each (takes_at_most f.frame) (λ b within. grind (arith, within))

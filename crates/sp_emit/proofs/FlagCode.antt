@@ -33,9 +33,11 @@ use Rattle.sp_emit.specs.Truths.{spares_second, pairs, kept_code, joining_code, 
 use Rattle.sp_tree.specs.MaskTests.{is_one}
 use Rattle.sp_emit.specs.declared.registers.TheConstants.{FIRST, TEST, SECOND}
 use Rattle.sp_emit.specs.declared.stands.Homes.{Homes}
-use Rattle.sp_emit.proofs.Calm.{is_calm_trail, parts_calm, calm_run, parts_trail_calm, keeps_all, keeps_both}
+use Rattle.sp_shape.proofs.Along.{have_joined, have_lone}
+use Rattle.sp_emit.proofs.Effects.{is_in, none}
+use Rattle.sp_emit.proofs.Calm.{calm, calm_done, calm_parts, IsCalm, keeps_all, keeps_both}
+use Rattle.sp_emit.proofs.Effects.{AreIn}
 use Rattle.sp_emit.proofs.Footprints.{tests_in, bit_in}
-use Rattle.sp_emit.proofs.CalmCode.{joined_calm, lone_calm, calm, all_calm}
 use Rattle.sp_emit.proofs.FlagWords.{flag_range, shown_flag, shown_plain, told_few, told_other}
 use Rattle.sp_emit.proofs.Held.{short_below}
 use Rattle.sp_emit.proofs.Leaving.{both_tested, both_told, did_compare, did_compare_short, did_combine, not_lt}
@@ -258,42 +260,37 @@ stood {homes} {slots} {s} {m} (between_two op a b) p shows whole named is = by (
 
 -- ---- what is kept before the bundle that sets the predicate
 
-calm_tests : (homes : Homes) (bs : List PlainBundle) → AreTests bs → parts_calm FIRST homes.first (one (straight bs))
-    ≡ true
+calm_tests : (homes : Homes) (bs : List PlainBundle) → AreTests bs → IsCalm FIRST homes.first (one (straight bs))
 calm_tests homes bs tests =
-    lone_calm FIRST homes.first bs (all_calm FIRST homes.first (omega arith) bs
-    (tests_in (calm FIRST homes.first (omega arith)) bs tests))
+    have_lone (is_in (calm FIRST homes.first)) none bs (tests_in (calm FIRST homes.first) bs tests)
 
-bit_calm : (homes : Homes) (slot : ℕ) → is_calm_trail FIRST homes.first (all_done (bit_sought homes.first slot)) ≡ true
+bit_calm : (homes : Homes) (slot : ℕ) → AreIn (calm FIRST homes.first) (bit_sought homes.first slot)
 bit_calm homes slot =
-    fetch_is (λ b. is_calm_trail FIRST homes.first (all_done
-    (b ∷ compare_short cmp.Btest SECOND (fetched_at homes.first slot) 0 ∷ [])) ≡ true) homes.first slot
+    fetch_is (λ b. AreIn (calm FIRST homes.first) (b ∷ compare_short cmp.Btest SECOND (fetched_at homes.first slot) 0 ∷ [])) homes.first slot
     refl (λ out. refl)
 
-calm_parts : (homes : Homes) → TruthParts (λ ps. parts_calm FIRST homes.first ps ≡ true) homes (Fitting homes)
-calm_parts homes = record {
+truths_calm : (homes : Homes) → TruthParts (λ ps. IsCalm FIRST homes.first ps) homes (Fitting homes)
+truths_calm homes = record {
   none = refl;
-  both = joined_calm FIRST homes.first;
+  both = have_joined (is_in (calm FIRST homes.first)) none;
   first = first_fitting homes;
   second = second_fitting homes;
   operands = λ e h. operands_calm homes FIRST e FIRST (omega arith) h.0 h.1;
   tests = calm_tests homes;
-  bits = λ slot h. lone_calm FIRST homes.first (bit_sought homes.first slot)
-      (all_calm FIRST homes.first (omega arith) (bit_sought homes.first slot)
-      (bit_in (calm FIRST homes.first (omega arith)) homes.first slot (λ out. refl)));
+  bits = λ slot h. have_lone (is_in (calm FIRST homes.first)) none (bit_sought homes.first slot)
+      (bit_in (calm FIRST homes.first) homes.first slot (λ out. refl));
 }
 
-tests_calm : (homes : Homes) (e : PlainSp) → Fitting homes e → parts_calm FIRST homes.first (tested_code homes e) ≡ true
+tests_calm : (homes : Homes) (e : PlainSp) → Fitting homes e → IsCalm FIRST homes.first (tested_code homes e)
 tests_calm homes e h =
-    joined_calm FIRST homes.first (operands_code homes e FIRST) (one (straight (test_of homes e)))
+    have_joined (is_in (calm FIRST homes.first)) none (operands_code homes e FIRST) (one (straight (test_of homes e)))
     (operands_calm homes FIRST e FIRST (omega arith) h.0 h.1) (calm_tests homes (test_of homes e)
     (of_tests homes e))
 
 tested_calm : {homes : Homes} {slots : ℕ} {s : State} {m : Run} (f : ℕ → List Step) (e : PlainSp)
     → IsReady homes slots e FIRST s m → Keeps FIRST homes.first m (run by_words (parts_trail f (tested_code homes e)) m)
 tested_calm {homes} {slots} {s} {m} f e r =
-    calm_run by_words FIRST homes.first (parts_trail f (tested_code homes e)) m (omega arith) r.whole
-    (parts_trail_calm f FIRST homes.first (tested_code homes e) (tests_calm homes e (fits_of r, r.free)))
+    calm_parts by_words FIRST homes.first f (tested_code homes e) m (omega arith) r.whole (tests_calm homes e (fits_of r, r.free))
 
 -- ---- the truth of an expression in the predicate of a test
 
@@ -331,9 +328,8 @@ second_told {homes} {slots} {s} {m} f b r told = by (flag_at homes.flags b) refl
     by : (o : Option ℕ) → flag_at homes.flags b ≡ o → Second homes b (told_in o) s m (run by_words
         (parts_trail f (unless_stands o (truth_code homes b))) m)
     by None is = record {
-      keeps = calm_run by_words FIRST homes.first (parts_trail f (truth_code homes b)) m (omega arith) r.whole
-          (parts_trail_calm f FIRST homes.first (truth_code homes b) (truth_is (calm_parts homes) b
-          (fits_of r, r.free)));
+      keeps = calm_parts by_words FIRST homes.first f (truth_code homes b) m (omega arith) r.whole (truth_is (truths_calm homes) b
+          (fits_of r, r.free));
       value = told is;
     }
     by (Some p) is =
@@ -393,7 +389,7 @@ record Sought (homes : Homes) (slot : ℕ) (m t : Run) : Type 0 where
 bit_seen : (homes : Homes) (slot : ℕ) (m : Run) → IsWhole m → slot < 128
     → Sought homes slot m (run by_words (all_done (bit_sought homes.first slot)) m)
 bit_seen homes slot m whole near = record {
-  keeps = calm_run by_words FIRST homes.first (all_done (bit_sought homes.first slot)) m (omega arith) whole
+  keeps = calm_done by_words FIRST homes.first (bit_sought homes.first slot) m (omega arith) whole
       (bit_calm homes slot);
   bit = ap (so SECOND) test ∙ so_got SECOND (has_bit (held at r) 0) r whole_r (omega arith) (omega arith)
       ∙ ap (λ w. has_bit w 0) (fetch_leaves by_words homes.first slot m refl whole near);
@@ -464,7 +460,7 @@ operands_told {homes} {slots} {s} {m} f op a b r joins_them told =
     by None is =
         let seeking = ap (λ o. is_some o || seeks homes.flags op a b) (sym is) ∙ parts.1 in
         let lone = run_lone by_words f (bit_sought homes.first (slot_number a)) n in
-        let sought_keeps = calm_run by_words FIRST homes.first (all_done (bit_sought homes.first (slot_number a))) n
+        let sought_keeps = calm_done by_words FIRST homes.first (bit_sought homes.first (slot_number a)) n
         (omega arith) second.keeps.whole (bit_calm homes (slot_number a)) in
         subst (Joined homes op a b s m) (sym lone) (record {
           keeps = keeps_both second.keeps sought_keeps;
@@ -544,20 +540,18 @@ paired_told {homes} {slots} {s} {m} f op a b r pair told =
     keep : List PlainBundle
     keep = combine comb.Por SECOND TEST TEST ∷ []
 
-    calm_a : parts_calm FIRST homes.first (truth_code homes a) ≡ true
-    calm_a = truth_is (calm_parts homes) a (first_fitting homes op a b fits)
+    calm_a : IsCalm FIRST homes.first (truth_code homes a)
+    calm_a = truth_is (truths_calm homes) a (first_fitting homes op a b fits)
 
     n : Run
     n = run by_words (parts_trail f first) m
 
     whole_before : IsWhole before
-    whole_before = (calm_run by_words FIRST homes.first (parts_trail f (truth_code homes a)) m (omega arith) r.whole
-        (parts_trail_calm f FIRST homes.first (truth_code homes a) calm_a)).whole
+    whole_before = (calm_parts by_words FIRST homes.first f (truth_code homes a) m (omega arith) r.whole calm_a).whole
 
     keeps : Keeps FIRST homes.first m n
-    keeps = calm_run by_words FIRST homes.first (parts_trail f first) m (omega arith) r.whole
-        (parts_trail_calm f FIRST homes.first first (joined_calm FIRST homes.first (truth_code homes a)
-        (one (straight keep)) calm_a (calm_tests homes keep refl)))
+    keeps = calm_parts by_words FIRST homes.first f first m (omega arith) r.whole (have_joined (is_in (calm FIRST homes.first)) none (truth_code homes a)
+        (one (straight keep)) calm_a (calm_tests homes keep refl))
 
     second_is : so SECOND n ≡ pred_value comb.Por (so TEST before) (so TEST before)
     second_is = ap (so SECOND) (run_joined by_words f (truth_code homes a) (one (straight keep)) m
@@ -658,14 +652,13 @@ pub record SetsFlag (homes : Homes) (to : ℕ) (e : PlainSp) (s : State) (m t : 
 
 -- by what the code of a truth leaves in the predicate of a test
 copied_set : {homes : Homes} {s : State} {m : Run} (f : ℕ → List Step) (to : ℕ) (e : PlainSp) (code : PlainParts)
-    → IsWhole m → parts_calm FIRST homes.first code ≡ true
+    → IsWhole m → IsCalm FIRST homes.first code
     → flag (so TEST (run by_words (parts_trail f code) m)) ≡ sp_value s.frame s.world e
     → SetsFlag homes to e s m (run by_words
     (parts_trail f (joined code (one (straight (combine comb.Por to TEST TEST ∷ []))))) m)
 copied_set {homes} {s} {m} f to e code whole calm told =
     let n = run by_words (parts_trail f code) m in
-    let keeps = calm_run by_words FIRST homes.first (parts_trail f code) m (omega arith) whole
-    (parts_trail_calm f FIRST homes.first code calm) in
+    let keeps = calm_parts by_words FIRST homes.first f code m (omega arith) whole calm in
     record {
       before = n;
       truth = pred_value comb.Por (so TEST n) (so TEST n);
@@ -735,7 +728,7 @@ flag_sets {homes} {slots} {s} {m} f to e r truth = by (flag_at homes.flags e) re
         either true is test = joined_set f to op a b r is test
         either false is test =
             copied_set f to (between_two op a b) (unjoined_code homes op a b (truth_code homes a)) r.whole
-            (unjoined_is (calm_parts homes) op a b (fits_of r, r.free) (truth_is (calm_parts homes) a
+            (unjoined_is (truths_calm homes) op a b (fits_of r, r.free) (truth_is (truths_calm homes) a
             (first_fitting homes op a b (fits_of r, r.free))))
             (unjoined_told f op a b r test (condition_told f a (first_is_ready op a b r)))
 

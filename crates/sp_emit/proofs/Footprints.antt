@@ -1,31 +1,26 @@
--- What the bundles of a body may set, load and store: registers, predicates, words of the stack, other memories. All
--- pieces of code that bodies are made of keep to a footprint that has what each of them names.
-use Rattle.std.proofs.Common.{◌≡◌, ℕ, ◌<◌, ◌+◌, Bool, true, false, List, refl, arith, ◌==◌, ◌&&◌}
+-- The pieces of code that bodies are made of keep to a footprint that has what each of them names.
+use Rattle.std.proofs.Common.{◌≡◌, ℕ, ◌<◌, ◌+◌, true, false, List, refl, arith}
 use Rattle.std.specs.Prelude.{is_none}
-use Rattle.std.specs.List.{list_all}
 use Rattle.std.proofs.lemmas.Bool.{and_parts, and_from, ltb-true, eqb-true}
 use Rattle.patmos_instr.specs.Bundles.{PlainBundle}
 use Rattle.patmos_instr.specs.declared.guards.Guard.{Guard}
 use Rattle.patmos_instr.specs.declared.instructions.Op.{Op}
-use Rattle.patmos_instr.specs.declared.instructions.Op.TheVariants.{Branch, Call, AluImm, AluReg, AluLong, Mul, FromSpecial, Cmp, CmpImm, Comb, Load, Store}
-use Rattle.patmos_instr.specs.declared.memories.Mem.TheVariants as mem
-use Rattle.patmos_instr.specs.declared.memories.StoreWidth.TheVariants as store
-use Rattle.patmos_instr.specs.declared.memories.Width.TheVariants as load
+use Rattle.patmos_instr.specs.declared.instructions.Op.TheVariants.{AluImm, AluReg, AluLong, Cmp, CmpImm, Comb}
 use Rattle.sp_tree.specs.declared.expressions.SpArray.{SpArray}
 use Rattle.sp_tree.specs.declared.expressions.SpCell.{SpCell}
 use Rattle.sp_tree.specs.declared.operators.SpBinary.{SpBinary}
 use Rattle.sp_tree.specs.declared.operators.SpUnary.{SpUnary}
-use Rattle.sp_shape.specs.Formed.{is_always}
 use Rattle.sp_shape.proofs.Lists.{all_weaker}
 use Rattle.sp_emit.specs.Division.{operands, without_signs, highest_bit, digit_tail, unsigned_quotient_to, unsigned_rest_to, signed_quotient_to, signed_rest_to}
 use Rattle.sp_emit.specs.Divisors.{factor_rest_to}
 use Rattle.sp_emit.specs.Expressions.{address_of, unary_code, held_code, cell_code, element_code, word_code}
 use Rattle.sp_emit.specs.Instructions.{always, under, idle, set_number}
-use Rattle.sp_emit.specs.Places.{flag_of, in_register, stack_word, fetched_at, read_word, fetch_word, keep_word, set_word, seek_word, match_word}
+use Rattle.sp_emit.specs.Places.{flag_of, in_register, stack_word, fetched_at, read_word, fetch_word, keep_word, set_word, seek_word, match_word, mask_test}
 use Rattle.sp_emit.specs.Statements.{cell_write, element_write, send_code, overrun_code, iterations_begin, iterations_tail, call_tail, mask_handed}
 use Rattle.sp_emit.specs.Truths.{bit_sought}
 use Rattle.sp_emit.specs.declared.registers.TheConstants.{MASK, FIRST, TEST, SECOND, MORE, SPARE, DIVIDEND, DIVISOR, REMAINDER, DIGITS, OVERRUN, FLAGS}
 use Rattle.sp_emit.specs.declared.stands.Homes.{Homes}
+use Rattle.sp_emit.proofs.Effects.{Footprint, is_in, AreIn, keeps_to}
 use Rattle.sp_emit.proofs.FlagWords.{seek_is, match_is, handed_is}
 use Rattle.sp_emit.proofs.Held.{held_is}
 use Rattle.sp_emit.proofs.Lasts.{is_alu}
@@ -34,65 +29,6 @@ use Rattle.sp_emit.proofs.Offsets.{AddressAre, address_are}
 use Rattle.sp_emit.proofs.Operands.{word_code_is}
 use Rattle.sp_emit.proofs.TruthCode.{is_test_op, is_test_bundle, AreTests}
 use Rattle.sp_emit.proofs.WordPlaces.{read_is, fetch_is, keep_is, set_op_is}
-
--- the last two say whether branches and calls may be among them. No code needs that register 0, those past the flag of loops
--- and the predicates of tests stay as they are
-pub record Footprint : Type 0 where
-  pub sets : ℕ → Bool
-  pub tells : ℕ → Bool
-  pub reads : ℕ → Bool
-  pub stores : ℕ → Bool
-  pub loads : Bool
-  pub writes : Bool
-  pub branches : Bool
-  pub calls : Bool
-  pub zero : sets 0 ≡ true
-  pub spare : (r : ℕ) → OVERRUN < r → sets r ≡ true
-  pub passing : (p : ℕ) → p < FLAGS → tells p ≡ true
-
--- an instruction under a guard: where a transaction with main memory may be, it is always done
-abbrev pub keeps_to : Footprint → Guard → Op → Bool
-keeps_to F g (AluImm func rd ra n) = F.sets rd
-keeps_to F g (AluReg func rd ra rb) = F.sets rd
-keeps_to F g (AluLong func rd ra n) = F.sets rd
-keeps_to F g (FromSpecial rd s) = F.sets rd
-keeps_to F g (Mul unsigned ra rb) = true
-keeps_to F g (Cmp func pd ra rb) = F.tells pd
-keeps_to F g (CmpImm func pd ra n) = F.tells pd
-keeps_to F g (Comb func pd a b) = F.tells pd
-keeps_to F g (Load mem.S load.Word rd ra word) = (ra == 0) && (F.sets rd && F.reads word)
-keeps_to F g (Load space load.Word rd ra words) = is_always g && (F.loads && F.sets rd)
-keeps_to F g (Store mem.S store.Word ra rs word) = (ra == 0) && F.stores word
-keeps_to F g (Store mem.L store.Word ra rs words) = F.writes
-keeps_to F g (Store space store.Word ra rs words) = is_always g && F.writes
-keeps_to F g (Branch offset) = F.branches
-keeps_to F g (Call target) = F.calls
-keeps_to F g _ = false
-
-abbrev pub is_in : Footprint → PlainBundle → Bool
-is_in F b = keeps_to F b.first.guard b.first.op && is_none b.second
-
-abbrev pub AreIn : Footprint → List PlainBundle → Type 0
-AreIn F bs = list_all (is_in F) bs ≡ true
-
--- all of them
-abbrev pub any : ℕ → Bool
-any n = true
-
-abbrev pub everything : Footprint
-everything = record {
-  sets = any;
-  tells = any;
-  reads = any;
-  stores = any;
-  loads = true;
-  writes = true;
-  branches = true;
-  calls = true;
-  zero = refl;
-  spare = λ r lt. refl;
-  passing = λ p lt. refl;
-}
 
 module _ (F : Footprint) where
   pub test : F.tells TEST ≡ true
@@ -222,6 +158,9 @@ module _ (F : Footprint) where
 
   pub match_in : (homes : Homes) (mask : ℕ) → is_in F (match_word homes mask) ≡ true
   match_in homes mask = match_is (λ b. is_in F b ≡ true) homes mask idle_in (rw (test) refl)
+
+  pub mask_test_in : (homes : Homes) (mask : ℕ) → MayRead homes.first mask → AreIn F (mask_test homes mask)
+  mask_test_in homes mask reads = rw (seek_in homes mask reads, match_in homes mask) refl
 
   pub begin_in : (homes counter n : ℕ) → F.sets (fetched_at homes counter) ≡ true → MayStore homes counter
       → AreIn F (iterations_begin homes counter n)

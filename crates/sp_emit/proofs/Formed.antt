@@ -1,6 +1,6 @@
 -- The code of a well-formed unit is a well-formed shape.
 use Rattle.std.proofs.Common.{false, ◌<◌, ◌≡◌, ℕ, zero, suc, ◌≤◌, Bool, true, List, [], ◌∷◌, length, slice_index_or, refl, ap, ◌∙◌, arith, Option}
-use Rattle.std.proofs.lemmas.Bool.{and_parts, and_from, lt-ltb}
+use Rattle.std.proofs.lemmas.Bool.{and_parts, and_from, le-leb, lt-ltb}
 use Rattle.std.specs.Prelude.{not, nat_lt, nat_le, ◌&&◌}
 use Rattle.std.specs.List.{list_all}
 use Rattle.patmos_instr.specs.Bundles.{PlainBundle}
@@ -17,16 +17,15 @@ use Rattle.sp_emit.specs.Functions.{first_counter, function_begin, function_end,
 use Rattle.sp_shape.specs.Formed.{is_flow}
 use Rattle.sp_emit.specs.Functions.{codes}
 use Rattle.sp_emit.specs.Instructions.{always, idle, with_short, compare_short, branch}
-use Rattle.sp_emit.specs.Places.{fetched_at, keep_word, set_word}
-use Rattle.sp_emit.specs.declared.registers.TheConstants.{RESULT, FIRST, MORE}
+use Rattle.sp_emit.specs.Places.{fetched_at, keep_word}
+use Rattle.sp_emit.specs.declared.registers.TheConstants.{FIRST, MORE}
 use Rattle.sp_emit.proofs.Codes.{codes_at, codes_length}
 use Rattle.sp_emit.proofs.WordPlaces.{fetch_is, keep_is}
-use Rattle.sp_emit.proofs.Around.{begin_all, end_all}
-use Rattle.sp_emit.proofs.Footprints.{Footprint, is_in, AreIn, everything, read_in, set_in}
+use Rattle.sp_emit.proofs.Around.{begins_in, ends_in, wide_begins, wide_ends}
+use Rattle.sp_emit.proofs.Effects.{Footprint, is_in, AreIn, everything, IsWide}
 use Rattle.sp_shape.proofs.Lists.{all_weaker}
-use Rattle.sp_emit.specs.Places.{read_word}
 use Rattle.sp_emit.proofs.Walks.{wide_within, Walk, walk_of, Within, Flows, binary_is, stmts_flow, stmts_are, body_is, begins, hands, results}
-use Rattle.sp_emit.proofs.Windows.{IsHomed, ArePlaced, InWindow, own_window}
+use Rattle.sp_emit.proofs.Windows.{IsHomed, ArePlaced, InWindow, own_window, unit_parts}
 use Rattle.sp_emit.specs.Statements.{mask_handed, way_to, after_call, result_write, call_code, stmts_code, iterations_begin, iterations_tail}
 use Rattle.sp_emit.specs.Flags.{begun_body}
 use Rattle.sp_emit.specs.declared.stands.Homes.{Homes}
@@ -49,14 +48,16 @@ abbrev is_still : PlainBundle → Bool
 is_still b = not (is_flow b.first.op)
 
 abbrev still : Footprint
-still = record everything { branches = false; calls = false }
+still = record everything { branches = false; calls = false; returns = false }
+
+still_wide : IsWide still
+still_wide = record { sets = λ r. refl; reads = λ word. refl; stores = λ word. refl }
 
 is_kept : (b : PlainBundle) → is_in still b ≡ true → is_still b ≡ true
 is_kept b within = grind (arith, within)
 
 still_within : (homes : Homes) (most : ℕ) → Within still homes most
-still_within homes most =
-    wide_within still (λ r. refl) (λ word. refl) (λ word. refl) homes most (λ slot p is. refl)
+still_within homes most = wide_within still_wide homes most (λ slot p is. refl)
 
 all_calm : (bs : List PlainBundle) → list_all is_still bs ≡ true → are_calm bs ≡ true
 all_calm [] all = refl
@@ -115,10 +116,6 @@ stmts_formed tops homes fs number slots frame counter ts h p =
 
 -- ---- functions
 
-set_still : (homes slot rs : ℕ) → is_still (set_word homes always slot rs) ≡ true
-set_still homes slot rs =
-    is_kept (set_word homes always slot rs) (set_in still homes always slot rs refl (λ out. refl))
-
 pub body_formed : {tops : List ℕ} {homes : Homes} {fs : List PlainFunction} {number : ℕ} {f : PlainFunction}
     → InWindow homes tops fs number f → parts_formed number (body_code homes f) ≡ true
 body_formed {tops} {homes} {fs} {number} {f} w =
@@ -126,9 +123,10 @@ body_formed {tops} {homes} {fs} {number} {f} w =
     (formed_flows tops homes fs number (tree.slots_of f) (frame_words homes.first f) (first_counter f) w.homed.own)
     (stmts_flow (begun_body homes.flags f))
 
-begin_calm : (homes : Homes) (f : PlainFunction) → are_calm (function_begin homes f) ≡ true
-begin_calm homes f = all_calm (function_begin homes f) (begin_all is_still homes f refl (λ r. refl)
-    (set_still homes.first) refl (λ slot p is. refl) (λ p is. refl) refl)
+begin_calm : {homes : Homes} {tops : List ℕ} {fs : List PlainFunction} {n : ℕ} {f : PlainFunction}
+    → InWindow homes tops fs n f → are_calm (function_begin homes f) ≡ true
+begin_calm {homes} {f = f} w = are_still (function_begin homes f)
+    (begins_in (wide_begins still_wide homes f (λ slot p is. refl)) w.parts refl)
 
 -- a function ends as what stands after parts does
 ends : (n : ℕ) (a b : PlainParts) → parts_formed n a ≡ true → function_formed n b ≡ true
@@ -149,12 +147,10 @@ function_is_formed : {homes : Homes} {tops : List ℕ} (fs : List PlainFunction)
     → InWindow homes tops fs n f → function_formed n (function_code homes f) ≡ true
 function_is_formed {homes} {tops} fs n f w =
     and_from (are_calm (function_begin homes f))
-    (function_formed n (joined (body_code homes f) (function_rest homes.first f))) (begin_calm homes f)
+    (function_formed n (joined (body_code homes f) (function_rest homes.first f))) (begin_calm w)
     (ends n (body_code homes f) (function_rest homes.first f)
     (body_formed w)
-    (rw (all_calm (function_end homes.first f) (end_all is_still homes.first f refl
-    (is_kept (read_word homes.first RESULT f.result) (read_in still homes.first RESULT f.result refl (λ out. refl)))
-    refl refl)) refl))
+    (rw (are_still (function_end homes.first f) (ends_in (wide_ends still_wide refl homes.first f) refl)) refl))
 
 functions_are_formed : (fs : List PlainFunction) (n : ℕ) → n ≤ length fs → tree.functions_formed fs n ≡ true
     → functions_formed (codes fs) n ≡ true
@@ -168,17 +164,14 @@ functions_are_formed fs (suc n) within h =
 
 pub emitted_formed : (u : PlainUnit) → tree.is_formed u ≡ true → is_formed (emitted u) ≡ true
 emitted_formed u h =
-    let a = and_parts (nat_le (length u.functions) 512) _ h in
-    let b = and_parts (tree.functions_formed u.functions (length u.functions)) _ a.1 in
-    let c = and_parts (tree.entry_formed u) (tree.data_formed u && _) b.1 in
-    let d = and_parts (nat_lt u.entry (length u.functions)) _ c.0 in
+    let p = unit_parts u h in
     let many = codes_length u.functions in
-    and_from (nat_le (length (emitted u).functions) 512) _ (ap (λ k. nat_le k 512) many ∙ a.0)
+    and_from (nat_le (length (emitted u).functions) 512) _ (ap (λ k. nat_le k 512) many ∙ le-leb (length u.functions) 512 p.few)
     (and_from (functions_formed (emitted u).functions (length (emitted u).functions))
     (nat_lt u.entry (length (emitted u).functions))
     (ap (functions_formed (emitted u).functions) many ∙ functions_are_formed u.functions (length u.functions)
-    (omega arith) b.0)
-    (ap (nat_lt u.entry) many ∙ d.0))
+    (omega arith) p.functions)
+    (ap (nat_lt u.entry) many ∙ lt-ltb u.entry (length u.functions) p.entry))
 
 pub formed_as : (s : PlainShape) (u : PlainUnit) → s ≡ emitted u → tree.is_formed u ≡ true → is_formed s ≡ true
 formed_as s u told h = ap is_formed told ∙ emitted_formed u h

@@ -14,8 +14,8 @@ use Rattle.sp_emit.specs.declared.registers.TheConstants.{MORE}
 use Rattle.sp_emit.specs.Statements.{iterations_tail}
 use Rattle.sp_emit.proofs.WordPlaces.{fetch_is, keep_is}
 use Rattle.sp_tree.specs.Formed.{slots_of}
-use Rattle.sp_emit.proofs.Footprints.{everything}
-use Rattle.sp_emit.proofs.Walks.{Walk, walk_of, Flows, everywhere, stmts_flow, body_is}
+use Rattle.sp_emit.proofs.Effects.{everything}
+use Rattle.sp_emit.proofs.Walks.{Walk, walk_of, Flows, wide_within, stmts_flow, body_is}
 use Rattle.sp_emit.proofs.Windows.{InWindow}
 use Rattle.sp_emit.specs.declared.stands.Homes.{Homes}
 
@@ -50,6 +50,10 @@ pub function_idle : {homes : Homes} {tops : List ℕ} {fs : List PlainFunction} 
     → InWindow homes tops fs number f → Idles (function_code homes f)
 function_idle {homes} {tops} {fs} {number} {f} w =
     both (body_code homes f) (function_rest homes.first f) (body_is walk refl refl w
-    (everywhere homes (first_counter f))
+    (wide_within (record {
+      sets = λ r. refl;
+      reads = λ word. refl;
+      stores = λ word. refl;
+    }) homes (first_counter f) (λ slot p is. refl))
     (flows tops homes fs number (slots_of f) (frame_words homes.first f) (first_counter f))
     (stmts_flow (begun_body homes.flags f))) refl

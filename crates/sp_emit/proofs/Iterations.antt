@@ -19,8 +19,8 @@ use Rattle.sp_emit.specs.Means.{Follows, HasWords, KeepsAfter}
 use Rattle.sp_emit.specs.Places.{in_register, word_of, fetch_word, fetched_at, keep_op, keep_word, stack_word}
 use Rattle.sp_emit.specs.Statements.{iterations_begin, iterations_tail}
 use Rattle.sp_emit.specs.declared.registers.TheConstants.{SPARE, OVERRUN, MORE}
-use Rattle.sp_emit.proofs.Calm.{is_calm_trail, calm_run, keeps_register}
-use Rattle.sp_emit.proofs.CalmCode.{spare_free}
+use Rattle.sp_emit.proofs.Calm.{calm, calm_done, keeps_register, spare_free}
+use Rattle.sp_emit.proofs.Effects.{AreIn}
 use Rattle.sp_emit.proofs.Leaving.{did_with_short, did_set_number}
 use Rattle.sp_emit.proofs.Masks.{Done, behind_still, keeps_set}
 use Rattle.sp_emit.proofs.Once.{with_written}
@@ -80,8 +80,7 @@ beside_written : (homes counter v : ℕ) (m : Run) → 1 ≤ homes → IsWhole m
 beside_written homes counter v m some whole =
     fetched_is (λ r. Beside homes counter m (with_written (write.Register r v) m)) homes counter
     (λ lt. beside_set some (omega arith) (sets_register homes counter v m some whole lt))
-    (beside_kept (keeps_register SPARE homes SPARE v m (omega arith) whole (spare_free SPARE homes SPARE
-    (omega arith) (omega arith))))
+    (beside_kept (keeps_register SPARE homes SPARE v m (omega arith) whole (spare_free SPARE homes SPARE (omega arith))))
 
 beside_back : (homes counter : ℕ) (m : Run) → 1 ≤ homes → counter < 128 → IsWhole m
     → Beside homes counter m (once by_words (keep_word homes counter) m)
@@ -92,7 +91,7 @@ beside_back homes counter m some few whole = by (in_register homes counter) refl
         → Beside homes counter m (once by_words
         (under always (if b then AluImm imm.Add 0 0 0 else Store mem.S store.Word 0 SPARE
         (stack_word homes counter))) m)
-    by true is = beside_kept (calm_run by_words SPARE homes (all_done (idle ∷ [])) m (omega arith) whole refl)
+    by true is = beside_kept (calm_done by_words SPARE homes (idle ∷ []) m (omega arith) whole refl)
     by false is = subst (Beside homes counter m) (sym (did_store_slot by_words always (stack_word homes counter) SPARE m
         whole whole.fits.always (omega (arith, few)))) (beside_set some (omega arith)
         (sets_stack homes counter (held SPARE m) m whole is))
@@ -126,15 +125,15 @@ tail_beside : (homes counter : ℕ) (m : Run) → 1 ≤ homes → counter < 128 
 tail_beside homes counter m some few whole =
     let left = fetched_at homes counter in
     let first : Beside homes counter m (once by_words (fetch_word homes counter) m) =
-    beside_kept (calm_run by_words SPARE homes (all_done (fetch_word homes counter ∷ [])) m (omega arith) whole
-    (fetch_is (λ b. is_calm_trail SPARE homes (all_done (b ∷ [])) ≡ true) homes counter refl (λ out. refl))) in
+    beside_kept (calm_done by_words SPARE homes (fetch_word homes counter ∷ []) m (omega arith) whole
+    (fetch_is (λ b. AreIn (calm SPARE homes) (b ∷ [])) homes counter refl (λ out. refl))) in
     let n = once by_words (fetch_word homes counter) m in
     let counted = subst (Beside homes counter n) (sym (did_with_short by_words imm.Sub left left 1 n first.whole))
     (beside_written homes counter (alu_value (alu_of imm.Sub) (held left n) 1) n some first.whole) in
     let u = once by_words (with_short always imm.Sub left left 1) n in
     let back = beside_back homes counter u some few counted.whole in
-    let last = calm_run by_words SPARE homes (all_done (compare_short cmp.Neq MORE left 0 ∷ branch MORE ∷ idle ∷ idle
-    ∷ [])) (once by_words (keep_word homes counter) u) (omega arith) back.whole refl in
+    let last = calm_done by_words SPARE homes (compare_short cmp.Neq MORE left 0 ∷ branch MORE ∷ idle ∷ idle
+    ∷ []) (once by_words (keep_word homes counter) u) (omega arith) back.whole refl in
     beside_then first (beside_then counted (beside_then back (beside_kept last)))
 
 -- ---- loops

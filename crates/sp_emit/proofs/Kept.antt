@@ -1,7 +1,6 @@
 -- What holds of each function's code holds of each function of the shape.
 use Rattle.std.proofs.Common.{◌≡◌, ℕ, ◌+◌, ◌<◌, ◌≤◌, true, length, slice_index_or, ap, sym, ◌∙◌, subst, arith}
-use Rattle.std.specs.Prelude.{nat_le, is_none}
-use Rattle.std.proofs.lemmas.Bool.{and_parts}
+use Rattle.std.specs.Prelude.{is_none}
 use Rattle.sp_tree.proofs.Forms.{earlier_one, earlier_ones}
 use Rattle.sp_tree.specs.Cost.{cost}
 use Rattle.sp_tree.specs.Formed as tree
@@ -12,13 +11,11 @@ use Rattle.sp_shape.specs.Words.{parts_room}
 use Rattle.sp_emit.specs.Chains.{takes_at_most}
 use Rattle.sp_emit.specs.Functions.{function_code, places_of, emitted}
 use Rattle.sp_emit.proofs.Codes.{codes_at}
-use Rattle.sp_emit.proofs.Alone.{function_alone}
 use Rattle.sp_emit.specs.Places.{tops}
-use Rattle.sp_emit.proofs.Windows.{InWindow, own_window}
+use Rattle.sp_emit.proofs.Windows.{InWindow, own_window, unit_parts}
 use Rattle.sp_emit.proofs.Idle.{function_idle}
 use Rattle.sp_emit.proofs.Room.{function_room}
-use Rattle.sp_emit.proofs.Steady.{function_steady}
-use Rattle.sp_emit.proofs.Taking.{function_takes}
+use Rattle.sp_emit.proofs.EachBundle.{function_steady, function_alone, function_takes}
 
 code_at : (s : PlainShape) (u : PlainUnit) → s ≡ emitted u → (k : ℕ) → k < length u.functions
     → slice_index_or s.functions k no_part ≡ function_code (places_of u.functions k) (slice_index_or
@@ -26,13 +23,12 @@ code_at : (s : PlainShape) (u : PlainUnit) → s ≡ emitted u → (k : ℕ) →
 code_at s u told k below = ap (λ x. slice_index_or x.functions k no_part) told ∙ codes_at u.functions k below
 
 -- each function in its window
-window : (u : PlainUnit) → tree.is_formed u ≡ true → (k : ℕ) → k < length u.functions
+pub window : (u : PlainUnit) → tree.is_formed u ≡ true → (k : ℕ) → k < length u.functions
     → InWindow (places_of u.functions k) (tops u.functions k) u.functions k (slice_index_or u.functions k no_function)
 window u h k below =
-    let a = and_parts (nat_le (length u.functions) 512) _ h in
-    let b = and_parts (tree.functions_formed u.functions (length u.functions)) _ a.1 in
-    own_window u.functions k (earlier_ones u.functions k (length u.functions) (omega (arith, below)) b.0)
-    (earlier_one u.functions k (length u.functions) below b.0)
+    let p = unit_parts u h in
+    own_window u.functions k (earlier_ones u.functions k (length u.functions) (omega (arith, below)) p.functions)
+    (earlier_one u.functions k (length u.functions) below p.functions)
 
 pub idle_as : (s : PlainShape) (u : PlainUnit) → s ≡ emitted u → tree.is_formed u ≡ true → (k : ℕ)
     → k < length u.functions → parts_idle (slice_index_or s.functions k no_part) ≡ true
@@ -61,8 +57,7 @@ pub room_as : (s : PlainShape) (u : PlainUnit) → s ≡ emitted u → tree.is_f
     → 1 + parts_room (slice_index_or s.functions k no_part) ≤ cost (slice_index_or u.functions k no_function)
 room_as s u told h k below =
     let f = slice_index_or u.functions k no_function in
-    let a = and_parts (nat_le (length u.functions) 512) _ h in
-    let b = and_parts (tree.functions_formed u.functions (length u.functions)) _ a.1 in
+    let p = unit_parts u h in
     subst (λ ps. 1 + parts_room ps ≤ cost f) (sym (code_at s u told k below))
     (function_room (places_of u.functions k) u.functions k f (earlier_one u.functions k (length u.functions) below
-    b.0) (omega arith))
+    p.functions) (omega arith))

@@ -1,5 +1,4 @@
 pub mod Accessing
-pub mod Alone
 pub mod Apart
 pub mod Arguments
 pub mod Around
@@ -9,7 +8,6 @@ pub mod BegunBody
 pub mod Binary
 pub mod Calling
 pub mod Calm
-pub mod CalmCode
 pub mod CellWrites
 pub mod Cells
 pub mod Codes
@@ -19,6 +17,7 @@ pub mod DigitIterations
 pub mod Digits
 pub mod Dividing
 pub mod ByConstants
+pub mod Effects
 pub mod Elements
 pub mod EachBundle
 pub mod Entering
@@ -51,7 +50,6 @@ pub mod Operands
 pub mod Overruns
 pub mod Passed
 pub mod Passing
-pub mod Taking
 pub mod TargetWrites
 pub mod WordPlaces
 pub mod Numbers
@@ -69,7 +67,6 @@ pub mod Sends
 pub mod Serves
 pub mod Signs
 pub mod Sizes
-pub mod Steady
 pub mod StoreAsks
 pub mod Storing
 pub mod TaskAsks
@@ -77,7 +74,6 @@ pub mod Tasks
 pub mod Iterations
 pub mod TreeSizes
 pub mod TruthCode
-pub mod Uncalled
 pub mod Untouched
 pub mod ValueAsks
 pub mod Values

@@ -1,17 +1,14 @@
 -- The loops of expressions and statements make all their iterations, where those of the functions that are called do.
-use Rattle.std.proofs.Common.{◌≡◌, ℕ, ◌+◌, ◌-◌, ◌^◌, ◌<◌, ◌≤◌, true, List, Option, slice_index_or, ◌∙◌, sym, subst, refl, arith}
-use Rattle.std.proofs.lemmas.Bool.{lt-ltb}
-use Rattle.patmos_instr.specs.Bundles.{PlainBundle}
+use Rattle.std.proofs.Common.{◌≡◌, ℕ, ◌+◌, ◌-◌, ◌^◌, ◌<◌, ◌≤◌, true, List, Option, slice_index_or, ◌∙◌, subst, refl, arith}
 use Rattle.sp_tree.specs.Formed.{result_formed, slots_of}
 use Rattle.sp_tree.specs.Statements.{PlainStmt, iterations, PlainStmts, no_stmt, stmt, PlainFunction}
 use Rattle.sp_shape.proofs.Whole.{once_whole, run_append}
-use Rattle.sp_shape.specs.Parts.{PlainParts, no_part, part, one, joined}
+use Rattle.sp_shape.specs.Parts.{PlainParts, no_part, part, joined}
 use Rattle.sp_shape.specs.Run.{Run, Sources, Back, once, run, begun, IsWhole}
 use Rattle.sp_shape.specs.Trail.{Step, all_done, part_trail, parts_trail}
 use Rattle.sp_shape.specs.Iterating.{PartsIteration}
 use Rattle.sp_emit.specs.Places.{word_of, fetched_at, stack_word}
 use Rattle.sp_emit.specs.Counts.{HasStmtCounts, HasStmtsCounts}
-use Rattle.sp_emit.specs.Division.{digits, digit_tail}
 use Rattle.sp_emit.specs.Flags.{begun_body}
 use Rattle.sp_emit.specs.Functions.{frame_words, first_counter, body_code}
 use Rattle.sp_emit.specs.Instructions.{set_number}
@@ -19,12 +16,10 @@ use Rattle.sp_emit.specs.Statements.{mask_handed, call_tail, call_code, iteratio
 use Rattle.sp_emit.proofs.Counters.{counter_iterations}
 use Rattle.sp_emit.proofs.DigitIterations.{division_iterations, signed_division_iterations}
 use Rattle.sp_emit.proofs.Leaving.{number_leaves}
-use Rattle.sp_emit.proofs.Formed.{call_formed, formed_flows, stmts_formed}
-use Rattle.sp_emit.proofs.Low.{Low, low, all_pass, low_within, low_flows, stmts_low, end_at, word_at}
-use Rattle.sp_emit.proofs.Passing.{AllPass, Passes, passes_all, passes_then, passes_done, passes_parts, passes_begun, enough_still}
-use Rattle.sp_emit.proofs.Values.{run_joined, run_lone}
-use Rattle.sp_emit.proofs.Footprints.{AreIn, digits_in, call_tail_in}
-use Rattle.sp_emit.proofs.Walks.{Walk, walk_of, StmtFlows, StmtsFlow, body_is, begins, hands}
+use Rattle.sp_emit.proofs.Low.{low_within, low_flows, stmts_low, end_at, word_at}
+use Rattle.sp_emit.proofs.Passing.{AllPass, Ready, ready_still, low, may_pass, Low, passes_then, passes_done, passes_parts, passes_begun}
+use Rattle.sp_emit.proofs.Footprints.{call_tail_in}
+use Rattle.sp_emit.proofs.Walks.{Walk, Within, Flows, StmtFlows, StmtsFlow, body_is, begins, hands, in_walk}
 use Rattle.sp_emit.proofs.Windows.{InWindow, ArePlaced, body_placed}
 use Rattle.sp_emit.proofs.WordPlaces.{fetched_some, fetched_few, keep_leaves}
 use Rattle.sp_emit.specs.declared.stands.Homes.{Homes}
@@ -48,56 +43,35 @@ iterations_joined from f Called back (part p xs) ys m x y = (
 pub record Callees (from : Sources) (f : ℕ → List Step) (Called : ℕ → Run → Type 0) (tops : List ℕ)
     (number low : ℕ) : Type 0 where
   pub passing : AllPass from f tops number low
-  pub iterating : (k : ℕ) → k < number → (m : Run) → IsWhole m → low ≤ m.st → Called k m
+  pub iterating : (k : ℕ) → k < number → (m : Run) → Ready low m → Called k m
 
-record Goes (from : Sources) (f : ℕ → List Step) (Called : ℕ → Run → Type 0) (back : Back) (top count least : ℕ)
-    (ps : PlainParts) : Type 0 where
-  iterates : (m : Run) → IsWhole m → least ≤ m.st → PartsIteration (run from) f Called back ps m
-  passes : (m : Run) → IsWhole m → least ≤ m.st → Passes top count m (run from (parts_trail f ps) m)
-
-done_passes : (from : Sources) (top count : ℕ) (some : 1 ≤ top) (bs : List PlainBundle) (m : Run) → count ≤ 128
-    → IsWhole m → AreIn (low top count some) bs → Passes top count m (run from (all_done bs) m)
-done_passes from top count some bs m few whole all =
-    passes_done from top count bs m few whole (all_pass top count some bs all)
-
-abbrev PassesFrom : Sources → (ℕ → List Step) → ℕ → ℕ → ℕ → PlainParts → Type 0
-PassesFrom from f top count least ps =
-    (m : Run) → IsWhole m → least ≤ m.st → Passes top count m (run from (parts_trail f ps) m)
-
-pass_walk : (from : Sources) (f : ℕ → List Step) (tops : List ℕ) (number least : ℕ) → AllPass from f tops number least
-    → (top count : ℕ) (some : 1 ≤ top) → count ≤ 128
-    → Walk (PassesFrom from f top count least) (low top count some)
-pass_walk from f tops number least passing top count some few = walk_of (low top count some)
-    (λ m whole enough. passes_all top count m whole)
-    (λ x y a b m whole enough. let p = a m whole enough in subst (Passes top count m) (sym (run_joined from f x y m))
-    (passes_then p (b (run from (parts_trail f x) m) p.whole (enough_still p enough))))
-    (λ bs all m whole enough. subst (Passes top count m) (sym (run_lone from f bs m))
-    (done_passes from top count some bs m few whole all))
-    (passes_parts from f tops number least top count few passing (one digits) refl
-    (rw (all_pass top count some digit_tail (digits_in (low top count some) refl)) refl))
+record Goes (from : Sources) (f : ℕ → List Step) (Called : ℕ → Run → Type 0) (back : Back) (tops : List ℕ)
+    (number top count least : ℕ) (ps : PlainParts) : Type 0 where
+  iterates : (m : Run) → Ready least m → PartsIteration (run from) f Called back ps m
+  lies : Low tops number top count ps
 
 go_walk : (from : Sources) (f : ℕ → List Step) (Called : ℕ → Run → Type 0) (back : Back) (tops : List ℕ)
-    (number least : ℕ) → AllPass from f tops number least → (top count : ℕ) (some : 1 ≤ top) → count ≤ 128
-    → Walk (Goes from f Called back top count least) (low top count some)
-go_walk from f Called back tops number least passing top count some few =
-    let W = pass_walk from f tops number least passing top count some few in
+    (number least : ℕ) → AllPass from f tops number least → (top count : ℕ) → count ≤ 128
+    → Walk (Goes from f Called back tops number top count least) (low top count)
+go_walk from f Called back tops number least passing top count few =
+    let W = in_walk (low top count) refl (may_pass tops number top) in
     record {
-      none = record { iterates = λ m whole enough. tt; passes = W.none };
+      none = record { iterates = λ m ready. tt; lies = W.none };
       both = λ x y a b. record {
-        iterates = λ m whole enough. let p = a.passes m whole enough in
-            iterations_joined from f Called back x y m (a.iterates m whole enough)
-            (b.iterates (run from (parts_trail f x) m) p.whole (enough_still p enough));
-        passes = W.both x y a.passes b.passes;
+        iterates = λ m ready.
+            let p = passes_parts from f tops number least top count few passing x a.lies m ready in
+            iterations_joined from f Called back x y m (a.iterates m ready)
+            (b.iterates (run from (parts_trail f x) m) (ready_still ready p));
+        lies = W.both x y a.lies b.lies;
       };
-      lone = λ bs all. record { iterates = λ m whole enough. (tt, tt); passes = W.lone bs all };
+      lone = λ bs all. record { iterates = λ m ready. (tt, tt); lies = W.lone bs all };
       unsigned = λ ra rb after last. record {
-        iterates = λ m whole enough. division_iterations from f Called back ra rb after m whole;
-        passes = W.unsigned ra rb after last;
+        iterates = λ m ready. division_iterations from f Called back ra rb after m ready.0;
+        lies = W.unsigned ra rb after last;
       };
       signed = λ rest quotient ra rb after own other last. record {
-        iterates = λ m whole enough.
-            signed_division_iterations from f Called back rest quotient ra rb after m whole;
-        passes = W.signed rest quotient ra rb after own other last;
+        iterates = λ m ready. signed_division_iterations from f Called back rest quotient ra rb after m ready.0;
+        lies = W.signed rest quotient ra rb after own other last;
       };
     }
 
@@ -126,12 +100,11 @@ pub body_iterations : {homes : Homes} {tops : List ℕ} {fs : List PlainFunction
     (Called : ℕ → Run → Type 0) (back : Back)
     (least : ℕ) → from.stack ≡ true → Callees from code Called tops number least
     → HasStmtsCounts (begun_body homes.flags f)
-    → (m : Run) → IsWhole m → least ≤ m.st → PartsIteration (run from) code Called back (body_code homes f) m
-body_iterations {homes} {tops} {fs} {number} {f} w from code Called back least told callees counts m whole enough =
-    (body_is (go_walk from code Called back tops number least callees.passing top count some few)
-    refl refl w (low_within homes most some)
-    (record { called = called; repeated = repeated })
-    (stmts_counts (begun_body homes.flags f) counts)).iterates m whole enough
+    → (m : Run) → Ready least m → PartsIteration (run from) code Called back (body_code homes f) m
+body_iterations {homes} {tops} {fs} {number} {f} w from code Called back least told callees counts m ready =
+    (body_is (go_walk from code Called back tops number least callees.passing top count few)
+    refl refl w x (record { called = called; repeated = repeated })
+    (stmts_counts (begun_body homes.flags f) counts)).iterates m ready
   where
     most : ℕ
     most = first_counter f
@@ -145,57 +118,54 @@ body_iterations {homes} {tops} {fs} {number} {f} w from code Called back least t
     frame : ℕ
     frame = frame_words homes.first f
 
+    x : Within (low top count) homes most
+    x = low_within homes most
+
     few : count ≤ 128
     few = omega (arith, w.parts.frame)
-
-    some : 1 ≤ top
-    some = omega arith
 
     le : slots_of f ≤ most + 1
     le = omega (arith, (body_placed w).levels)
 
+    G : Flows (Low tops number top count) tops homes fs number (slots_of f) frame most (λ k. Unit {0})
+        (λ count. Unit {0})
+    G = low_flows tops homes fs number (slots_of f) frame most w.homed le
+
     called : (mask k : ℕ) (result : Option ℕ) → mask < slots_of f → k < number → slice_index_or tops k 0 ≤ homes.first
         → result_formed (slots_of f) result ≡ true → Unit {0}
-        → Goes from code Called back top count least (call_code homes frame mask k result)
+        → Goes from code Called back tops number top count least (call_code homes frame mask k result)
     called mask k result lt earlier window formed may = record {
-      iterates = λ m whole enough.
-          let q = done_passes from top count some (mask_handed homes mask) m few whole
-          (hands (low_within homes most some) mask
-          (omega (arith, le, lt)) w.homed.own) in
+      iterates = λ m ready.
+          let q = passes_done from top count (mask_handed homes mask) m few ready.0 (hands x mask (omega (arith, le, lt))
+          w.homed.own) in
           let u = run from (all_done (mask_handed homes mask)) m in
-          let r = done_passes from top count some call_tail u few q.whole
-          (call_tail_in (low top count some) refl) in
+          let r = passes_done from top count call_tail u few q.whole (call_tail_in (low top count) refl) in
           let b = passes_begun top count (run from (all_done call_tail) u) r.whole in (
             tt,
             (
-              callees.iterating k earlier (begun (run from (all_done call_tail) u)) b.whole
-                  (enough_still (passes_then q (passes_then r b)) enough),
+              callees.iterating k earlier (begun (run from (all_done call_tail) u))
+                  (ready_still ready (passes_then q (passes_then r b))),
               (tt, tt),
             ),
           );
-      passes = passes_parts from code tops number least top count few callees.passing
-          (call_code homes frame mask k result)
-          (call_formed homes number (slots_of f) frame mask k result (lt-ltb k number earlier) lt formed w.homed.own)
-          ((low_flows tops homes fs number (slots_of f) frame most w.homed le).called mask k result lt earlier window
-          formed tt);
+      lies = G.called mask k result lt earlier window formed tt;
     }
 
     repeated : (n counter : ℕ) (body : PlainStmts) → 1 ≤ n → 1 ≤ counter → counter ≤ most
         → ArePlaced tops homes fs number (slots_of f) (counter - 1) body → n < 2 ^ 32
-        → Goes from code Called back top count least (stmts_code homes frame (counter - 1) body)
-        → Goes from code Called back top count least (stmt_code homes frame counter (iterations n body))
+        → Goes from code Called back tops number top count least (stmts_code homes frame (counter - 1) body)
+        → Goes from code Called back tops number top count least (stmt_code homes frame counter (iterations n body))
     repeated n counter body times nested within placed word goes =
         let inner = stmts_code homes frame (counter - 1) body in
-        let formed = stmts_formed tops homes fs number (slots_of f) frame (counter - 1) body w.homed placed in
-        let lies : Low tops (homes.first + counter) (stack_word homes.first counter) inner =
-        subst (λ c. Low tops (homes.first + c) (stack_word homes.first c) inner)
+        let lies : Low tops number (homes.first + counter) (stack_word homes.first counter) inner =
+        subst (λ c. Low tops number (homes.first + c) (stack_word homes.first c) inner)
         (let e : counter - 1 + 1 ≡ counter = omega (arith, nested) in e)
         (stmts_low tops homes fs number (slots_of f) frame (counter - 1) w.homed (omega (arith, placed.levels))
         (counter - 1) body (omega arith) placed) in
         record {
-          iterates = λ m whole enough.
-              let p = done_passes from top count some (iterations_begin homes.first counter n) m few whole
-              (begins (low_within homes most some) counter n within) in (
+          iterates = λ m ready.
+              let p = passes_done from top count (iterations_begin homes.first counter n) m few ready.0 (begins x counter
+              n within) in (
                 tt,
                 (
                   counter_iterations from code (PartsIteration (run from) code Called back inner) inner homes.first
@@ -203,18 +173,11 @@ body_iterations {homes} {tops} {fs} {number} {f} w from code Called back least t
                       goes.iterates
                       (passes_parts from code tops number least (homes.first + counter)
                       (stack_word homes.first counter) (omega (arith, within, w.parts.frame)) callees.passing inner
-                      formed lies) n word (run from (all_done (iterations_begin homes.first counter n)) m) p.whole
-                      (enough_still p enough) (counter_set from homes.first counter n m (omega (arith, w.homed.own))
-                      whole (omega (arith, within, w.parts.frame)) word),
+                      lies) n word (run from (all_done (iterations_begin homes.first counter n)) m)
+                      (ready_still ready p) (counter_set from homes.first counter n m (omega (arith, w.homed.own))
+                      ready.0 (omega (arith, within, w.parts.frame)) word),
                   tt,
                 ),
               );
-          passes = passes_parts from code tops number least top count few callees.passing
-              (stmt_code homes frame counter (iterations n body))
-              ((formed_flows tops homes fs number (slots_of f) frame most w.homed.own).repeated n counter
-              body times nested
-              within placed tt formed)
-              ((low_flows tops homes fs number (slots_of f) frame most w.homed le).repeated n counter body times nested
-              within placed tt (stmts_low tops homes fs number (slots_of f) frame most w.homed le (counter - 1) body
-              (omega (arith, within)) placed));
+          lies = G.repeated n counter body times nested within placed tt goes.lies;
         }

@@ -25,7 +25,8 @@ use Rattle.sp_shape.proofs.Whole.{once_whole}
 use Rattle.sp_emit.specs.Flags.{stmt_hinders}
 use Rattle.sp_emit.specs.Truths.{is_truth, flag_code}
 use Rattle.sp_emit.specs.Places.{flag_of, shown_word, fetch_word, fetched_at, set_word, mask_test, told_in, told_at, stack_word}
-use Rattle.sp_emit.proofs.Calm.{is_calm_trail, calm_run, keeps_all, keeps_both, keeps_fewer}
+use Rattle.sp_emit.proofs.Calm.{calm, calm_done, keeps_all, keeps_both, keeps_fewer}
+use Rattle.sp_emit.proofs.Effects.{AreIn}
 use Rattle.sp_emit.proofs.Leaving.{did_compare_short}
 use Rattle.sp_emit.proofs.WordPlaces.{with_word, Sets, fetch_is, fetch_leaves, did_set_word, set_off, sets_word, sets_straight, stack_before}
 use Rattle.sp_emit.proofs.Once.{with_written, whole_written, kept_by_pred, so_got, did_nothing}
@@ -252,7 +253,7 @@ tested homes slots mask s n most named x =
     flagged : (p : ℕ) → flag_of homes.flags mask ≡ Some p
         → Tested homes mask s n (run by_words (all_done (idle ∷ idle ∷ [])) n)
     flagged p is =
-        let keeps = calm_run by_words SPARE homes.first (all_done (idle ∷ idle ∷ [])) n (omega arith) x.whole refl in
+        let keeps = calm_done by_words SPARE homes.first (idle ∷ idle ∷ []) n (omega arith) x.whole refl in
         let range = flag_range homes.flags mask p is in
         record {
           keeps = keeps;
@@ -274,9 +275,8 @@ tested homes slots mask s n most named x =
         → Tested homes mask s n (run by_words
         (all_done (fetch_word homes.first mask ∷ compare_short cmp.Eq TEST at 1 ∷ [])) n)
     plain is = record {
-      keeps = calm_run by_words SPARE homes.first
-          (all_done (fetch_word homes.first mask ∷ compare_short cmp.Eq TEST at 1 ∷ [])) n (omega arith) x.whole
-          (fetch_is (λ b. is_calm_trail SPARE homes.first (all_done (b ∷ compare_short cmp.Eq TEST at 1 ∷ [])) ≡ true)
+      keeps = calm_done by_words SPARE homes.first (fetch_word homes.first mask ∷ compare_short cmp.Eq TEST at 1 ∷ []) n (omega arith) x.whole
+          (fetch_is (λ b. AreIn (calm SPARE homes.first) (b ∷ compare_short cmp.Eq TEST at 1 ∷ []))
           homes.first mask refl (λ out. refl));
       test = ap (λ o. so (told_in o) (once by_words (compare_short cmp.Eq TEST at 1) r1)) is
           ∙ ap (so TEST) (did_compare_short by_words cmp.Eq TEST at 1 r1 whole_r1)

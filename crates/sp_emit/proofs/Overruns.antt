@@ -23,7 +23,7 @@ use Rattle.sp_emit.specs.declared.registers.TheConstants.{FIRST, SPARE, OVERRUN,
 use Rattle.sp_tree.specs.Need.{need}
 use Rattle.sp_emit.proofs.FlagWords.{told_few, told_other, shown_still}
 use Rattle.sp_emit.specs.Places.{mask_test, told_at}
-use Rattle.sp_emit.proofs.Calm.{calm_run}
+use Rattle.sp_emit.proofs.Calm.{calm_done}
 use Rattle.sp_emit.proofs.Leaving.{did_compare_short, did_combine, did_set_short}
 use Rattle.sp_emit.proofs.Passing.{keeps_then}
 use Rattle.sp_emit.proofs.Masks.{Done, ready, follows_still, behind_still, tested}
@@ -148,7 +148,7 @@ overrun_is_done homes f frame counter slots mask e s m most masked formed consta
     let u = run by_words (all_done (mask_test homes mask)) n in
     let told = told_at homes mask in
     let bs = compare_short cmp.Neq SECOND FIRST 0 ∷ combine comb.Pand TEST told SECOND ∷ [] in
-    let joined_keeps = calm_run by_words SPARE homes.first (all_done bs) u (omega arith) t.keeps.whole refl in
+    let joined_keeps = calm_done by_words SPARE homes.first bs u (omega arith) t.keeps.whole refl in
     let w = run by_words (all_done bs) u in
     let test = both_test told (s.frame mask == 1) (worth e s) u t.keeps.whole (told_few homes mask).1
     (told_other homes mask) t.test (t.keeps.low FIRST (omega arith) ∙ value_left f e r) in

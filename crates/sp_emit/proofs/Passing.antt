@@ -1,90 +1,67 @@
 -- What code leaves of the stack after the first words of a frame, and of the registers from one on, whatever its
 -- loads give.
-use Rattle.std.proofs.Common.{◌≡◌, ℕ, zero, suc, ◌+◌, ◌*◌, ◌/◌, ◌%◌, ◌^◌, ◌<◌, ◌≤◌, ◌==◌, ◌⊎◌, inl, inr, Bool, true, false, ◌&&◌, ◌||◌, if◌then◌else◌, is_none, List, [], ◌∷◌, ◌++◌, nat_lt, slice_index_or, refl, sym, ap, ◌∙◌, subst, arith, true≢false, not, ne_eqb}
+use Rattle.std.proofs.Common.{◌≡◌, ℕ, zero, suc, ◌+◌, ◌/◌, ◌<◌, ◌≤◌, ◌==◌, Bool, true, false, ◌&&◌, ◌||◌, List, ◌∷◌, nat_lt, slice_index_or, ◌∙◌, sym, ap, subst, refl, arith, true≢false}
 use Rattle.std.specs.Prelude.{nat_le}
-use Rattle.std.specs.List.{list_all}
-use Rattle.std.proofs.lemmas.Bool.{and_parts, and_from, or_cases, leb-true, lt-ltb, ltb-true, eqb-true}
+use Rattle.std.proofs.lemmas.Bool.{and_parts, leb-true, lt-ltb, ltb-true, le-leb, or_right}
 use Rattle.shared_order.specs.Words.{put}
 use Rattle.patmos_instr.specs.Bundles.{PlainBundle}
 use Rattle.patmos_instr.specs.declared.functions.StackFunc.TheVariants.{Sres, Sfree}
-use Rattle.patmos_instr.specs.declared.instructions.Op.{Op}
-use Rattle.patmos_instr.specs.declared.instructions.Op.TheVariants.{AluImm, AluReg, AluLong, FromSpecial, Stack, Load, Store}
 use Rattle.patmos_instr.specs.declared.memories.Mem.TheVariants as mem
-use Rattle.patmos_instr.specs.declared.memories.StoreWidth.TheVariants as store
-use Rattle.patmos_instr.specs.declared.memories.Width.TheVariants as load
-use Rattle.patmos_sem.specs.Effects.{asked}
-use Rattle.patmos_sem.specs.Registers.{Registers, word_in, holds}
+use Rattle.patmos_sem.specs.Bundles.{effect_of}
+use Rattle.patmos_sem.specs.declared.effects.Effect.{Effect}
 use Rattle.patmos_sem.specs.declared.effects.Effect.TheVariants as effect
-use Rattle.sp_shape.proofs.Whole.{behind, once_whole, begun_whole, run_append}
-use Rattle.sp_shape.specs.Formed.{is_call, is_way, is_iteration, part_formed, parts_formed}
-use Rattle.sp_shape.specs.Parts.{PlainPart, straight, repeats, calls_to, leaves, PlainParts, no_part, part}
+use Rattle.sp_shape.proofs.Along.{parts_have, Relates, run_done, run_parts}
+use Rattle.sp_shape.proofs.Whole.{behind, once_whole, begun_whole}
+use Rattle.sp_shape.specs.Parts.{PlainParts}
 use Rattle.sp_shape.specs.Run.{Run, Sources, once, effected, run, begun, IsWhole}
-use Rattle.sp_shape.specs.Trail.{Step, begins, all_done, copies, part_trail, parts_trail}
-use Rattle.sp_emit.specs.Holding.{KeepsFrom}
+use Rattle.sp_shape.specs.Trail.{Step, begins, all_done, parts_trail}
+use Rattle.sp_emit.specs.Holding.{held, KeepsFrom}
 use Rattle.sp_emit.specs.Means.{KeepsAfter}
 use Rattle.sp_emit.specs.declared.registers.TheConstants.{OVERRUN}
+use Rattle.sp_emit.proofs.Effects.{Footprint, is_in, AreIn, brings, everything, IsWordOf, AsksIn, effect_in, spared_once}
 use Rattle.sp_emit.proofs.Frames.{put_other}
-use Rattle.sp_emit.proofs.Untouched.{register, leaves_op, left_once}
+use Rattle.sp_emit.proofs.Untouched.{register}
 
--- ---- what an instruction may change
+-- ---- what a bundle may change
 
--- a register that is none of those from one on, before the flag of loops
+-- a register that is none of those from one on, before the flag of loops; register 0 stays 0
 abbrev pub is_outside : ℕ → ℕ → Bool
-is_outside top r = nat_lt r top || nat_le OVERRUN r
+is_outside top r = (r == 0) || (nat_lt r top || nat_le OVERRUN r)
 
--- an instruction that changes no word of the stack but one of the first so many, leaves its top, and sets no register
--- from one on, before the flag of loops
-abbrev pub is_low : ℕ → ℕ → Op → Bool
-is_low top count (AluImm func rd ra imm) = is_outside top rd
-is_low top count (AluReg func rd ra rb) = is_outside top rd
-is_low top count (AluLong func rd ra constant) = is_outside top rd
-is_low top count (FromSpecial rd special) = is_outside top rd
-is_low top count (Load space load.Word rd ra imm) = is_outside top rd
-is_low top count (Load space width rd ra imm) = false
-is_low top count (Store mem.S store.Word ra rs imm) = (ra == 0) && nat_lt imm count
-is_low top count (Store mem.S width ra rs imm) = false
-is_low top count (Stack Sres n) = false
-is_low top count (Stack Sfree n) = false
-is_low top count _ = true
+pub outside_low : (top r : ℕ) → r < top → is_outside top r ≡ true
+outside_low top r lt = or_right (r == 0) (nat_lt r top || nat_le OVERRUN r) (rw (lt-ltb r top lt) refl)
 
-abbrev pub passes : ℕ → ℕ → PlainBundle → Bool
-passes top count b = is_low top count b.first.op && is_none b.second
+pub outside_past : (top r : ℕ) → OVERRUN ≤ r → is_outside top r ≡ true
+outside_past top r past = or_right (r == 0) (nat_lt r top || nat_le OVERRUN r)
+    (or_right (nat_lt r top) (nat_le OVERRUN r) (le-leb OVERRUN r past))
+
+-- no word of the stack but one of the first so many, and no register from one on, before the flag of loops; the top of
+-- the stack stays
+abbrev pub low : ℕ → ℕ → Footprint
+low top count = record everything {
+  sets = is_outside top;
+  stores = λ word. nat_lt word count;
+  stacks = brings;
+  zero = refl;
+  spare = λ r lt. outside_past top r (omega (arith, lt));
+}
 
 -- nothing is pending, and the stack after so many words and the registers from one on are as they were
 pub record Passes (top count : ℕ) (m t : Run) : Type 0 where
   pub whole : IsWhole t
   pub keeps : KeepsAfter top count m t
 
--- ---- registers
+high_spared : (top r : ℕ) → 1 ≤ r → top ≤ r → r < OVERRUN → is_outside top r ≡ false
+high_spared top r some from few = grind (arith, some, from, few)
 
-outside_apart : (top rd r : ℕ) → is_outside top rd ≡ true → top ≤ r → r < OVERRUN → not (rd == r) ≡ true
-outside_apart top rd r out from few =
-    ap not (ne_eqb rd r (λ same. by same (or_cases (nat_lt rd top) (nat_le OVERRUN rd) out)))
-  where
-    by : rd ≡ r → (nat_lt rd top ≡ true) ⊎ (nat_le OVERRUN rd ≡ true) → ⊥
-    by same (inl before) = omega (arith, same, from, ltb-true rd top before)
-    by same (inr past) = omega (arith, same, few, leb-true OVERRUN rd past)
-
-pub outside_low : (top r : ℕ) → r < top → is_outside top r ≡ true
-outside_low top r lt = rw (lt-ltb r top lt) refl
-
--- an instruction that sets no register from one on leaves each of them
-low_leaves : (top count r : ℕ) → top ≤ r → r < OVERRUN → (op : Op) → is_low top count op ≡ true
-    → leaves_op (register r) op ≡ true
-low_leaves top count r from few (AluImm func rd ra imm) low = outside_apart top rd r low from few
-low_leaves top count r from few (AluReg func rd ra rb) low = outside_apart top rd r low from few
-low_leaves top count r from few (AluLong func rd ra constant) low = outside_apart top rd r low from few
-low_leaves top count r from few (FromSpecial rd special) low = outside_apart top rd r low from few
-low_leaves top count r from few (Load space load.Word rd ra imm) low = outside_apart top rd r low from few
-low_leaves top count r from few (Load space _ rd ra imm) low = absurd (true≢false (sym low))
-low_leaves top count r from few _ low = refl
-
-high_once : (from : Sources) (top count : ℕ) (b : PlainBundle) (m : Run) → IsWhole m → passes top count b ≡ true
+high_once : (from : Sources) (top count : ℕ) (b : PlainBundle) (m : Run) → IsWhole m → is_in (low top count) b ≡ true
     → KeepsFrom top m (once from b m)
-high_once from top count b m whole low = λ r at lt.
-    let both = and_parts (is_low top count b.first.op) (is_none b.second) low in
-    left_once from (register r) b m (omega (arith, lt)) whole (and_from (leaves_op (register r) b.first.op)
-    (is_none b.second) (low_leaves top count r at lt b.first.op both.0) both.1)
+high_once from top count b m whole within = by
+  where
+    by : (r : ℕ) → top ≤ r → r < OVERRUN → held r (once from b m) ≡ held r m
+    by zero at lt = (once_whole from b m whole).fits.zero ∙ sym whole.fits.zero
+    by (suc r) at lt = spared_once from (low top count) (register (suc r)) b m (omega (arith, lt)) whole within
+        (high_spared top (suc r) (omega arith) at lt)
 
 -- ---- the stack
 
@@ -96,52 +73,33 @@ record KeepsStack (count : ℕ) (m t : Run) : Type 0 where
 stays : (count : ℕ) (m t : Run) → t.st ≡ m.st → t.stack ≡ m.stack → KeepsStack count m t
 stays count m t st stack = record { st = st; stack = λ a above. ap (λ words. words a) stack }
 
-slot_stored : (count ra imm value : ℕ) (regs : Registers) (m : Run) → count ≤ 128 → word_in regs 0 ≡ 0 → ra
-    ≡ 0 → imm < count
-    → (a : ℕ) → m.st + count ≤ a → put (m.st + (word_in regs ra + imm * 4) % 2 ^ 32 / 4) value m.stack a ≡ m.stack a
-slot_stored count ra imm value regs m few zero_is base named a above =
-    ap (λ r. put (m.st + (word_in regs r + imm * 4) % 2 ^ 32 / 4) value m.stack a) base
-    ∙ ap (λ z. put (m.st + (z + imm * 4) % 2 ^ 32 / 4) value m.stack a) zero_is
-    ∙ ap (λ n. put (m.st + n) value m.stack a) (let e : (0 + imm * 4) % 2 ^ 32 / 4 ≡ imm = omega (
-      arith,
-      named,
-      few,
-    ) in e)
-    ∙ put_other (m.st + imm) a value m.stack (λ same. absurd (omega (arith, same, named, above)))
+slot_stored : (count address value : ℕ) (m : Run) → count ≤ 128 → IsWordOf (λ word. nat_lt word count) address
+    → (a : ℕ) → m.st + count ≤ a → put (m.st + address / 4) value m.stack a ≡ m.stack a
+slot_stored count address value m few w a above =
+    let lt = ltb-true w.0 count w.1 in
+    let slot : address / 4 ≡ w.0 = omega (arith, w.2, lt, few) in
+    put_other (m.st + address / 4) a value m.stack (λ same. absurd (omega (arith, same, slot, lt, above)))
 
-passes_effect : (from : Sources) (top count : ℕ) (on : Bool) (op : Op) (regs : Registers) (m : Run) → count ≤ 128
-    → word_in regs 0 ≡ 0 → is_low top count op ≡ true
-    → KeepsStack count m (effected from (if on then asked regs op else effect.Nothing) m)
-passes_effect from top count false op regs m few zero_is low = stays count m _ refl refl
-passes_effect from top count true (Store mem.S store.Word ra rs imm) regs m few zero_is low =
-    let both = and_parts (ra == 0) (nat_lt imm count) low in
-    record {
-      st = refl;
-      stack = slot_stored count ra imm _ regs m few zero_is (eqb-true ra 0 both.0)
-          (ltb-true imm count both.1);
-    }
-passes_effect from top count true (Store mem.S store.Half ra rs imm) regs m few zero_is low =
-    absurd (true≢false (sym low))
-passes_effect from top count true (Store mem.S store.Byte ra rs imm) regs m few zero_is low =
-    absurd (true≢false (sym low))
-passes_effect from top count true (Store _ width ra rs imm) regs m few zero_is low = stays count m _ refl refl
-passes_effect from top count true (Stack Sres n) regs m few zero_is low = absurd (true≢false (sym low))
-passes_effect from top count true (Stack Sfree n) regs m few zero_is low = absurd (true≢false (sym low))
-passes_effect from top count true _ regs m few zero_is low = stays count m _ refl refl
+passes_effected : (from : Sources) (top count : ℕ) (e : Effect) (m : Run) → count ≤ 128 → AsksIn (low top count) e
+    → KeepsStack count m (effected from e m)
+passes_effected from top count (effect.Store mem.S width address value) m few asks =
+    record { st = refl; stack = slot_stored count address _ m few asks.1 }
+passes_effected from top count (effect.Store _ width address value) m few asks = stays count m _ refl refl
+passes_effected from top count (effect.StackOp Sres n) m few asks = absurd (true≢false (sym asks))
+passes_effected from top count (effect.StackOp Sfree n) m few asks = absurd (true≢false (sym asks))
+passes_effected from top count _ m few asks = stays count m _ refl refl
 
-pub passes_once : (from : Sources) (top count : ℕ) (b : PlainBundle) (m : Run) → count ≤ 128 → IsWhole m
-    → passes top count b
-    ≡ true → Passes top count m (once from b m)
-passes_once from top count b m few whole low =
-    let own = (and_parts (is_low top count b.first.op) (is_none b.second) low).0 in
-    let k = passes_effect from top count (holds m.regs b.first.guard) b.first.op m.regs (behind b m) few
-    whole.fits.zero own in
+passes_once : (from : Sources) (top count : ℕ) → count ≤ 128 → (b : PlainBundle) (m : Run)
+    → is_in (low top count) b ≡ true → IsWhole m → Passes top count m (once from b m)
+passes_once from top count few b m within whole =
+    let k = passes_effected from top count (effect_of b m.regs) (behind b m) few
+    (effect_in (low top count) b m.regs whole.fits.zero within) in
     record {
       whole = once_whole from b m whole;
       keeps = record {
         st = k.st;
         stack = k.stack;
-        high = high_once from top count b m whole low;
+        high = high_once from top count b m whole within;
       };
     }
 
@@ -176,32 +134,38 @@ passes_more higher le a = record {
   };
 }
 
+-- a state with so much room on its stack
+abbrev pub Ready : ℕ → Run → Type 0
+Ready low m = IsWhole m × (low ≤ m.st)
+
+pub ready_still : {top count least : ℕ} {m t : Run} → Ready least m → Passes top count m t → Ready least t
+ready_still {m = m} r p = (p.whole, omega (arith, r.1, p.keeps.st))
+
+passing : (top count least : ℕ) → Relates (Ready least) (Passes top count)
+passing top count least = record {
+  same = λ m ready. passes_all top count m ready.0;
+  then = λ m n t a b. passes_then a b;
+  fit = λ m t ready a. ready_still ready a;
+}
+
 pub passes_done : (from : Sources) (top count : ℕ) (bs : List PlainBundle) (m : Run) → count ≤ 128 → IsWhole m
-    → list_all (passes top count) bs ≡ true → Passes top count m (run from (all_done bs) m)
-passes_done from top count [] m few whole low = passes_all top count m whole
-passes_done from top count (b ∷ bs) m few whole low =
-    let both = and_parts (passes top count b) (list_all (passes top count) bs) low in
-    let one = passes_once from top count b m few whole both.0 in
-    passes_then one (passes_done from top count bs (once from b m) few one.whole both.1)
+    → AreIn (low top count) bs → Passes top count m (run from (all_done bs) m)
+passes_done from top count bs m few whole all =
+    run_done from (Ready 0) (Passes top count) (passing top count 0) (is_in (low top count))
+    (λ b m within ready. passes_once from top count few b m within ready.0) bs all m (whole, omega arith)
 
 -- functions that leave the whole stack, and the registers after their windows, as they were, where there is so much
 -- room
 pub record AllPass (from : Sources) (f : ℕ → List Step) (tops : List ℕ) (number low : ℕ) : Type 0 where
-  pub called : (k : ℕ) → k < number → (m : Run) → IsWhole m → low ≤ m.st
+  pub called : (k : ℕ) → k < number → (m : Run) → Ready low m
       → Passes (slice_index_or tops k 0) 0 m (run from (f k) m)
 
--- code whose bundles pass, and that calls functions whose windows end before a register alone
-abbrev mutual
-  pub part_passes : List ℕ → ℕ → ℕ → PlainPart → Bool
-  part_passes tops top count (straight bs) = list_all (passes top count) bs
-  part_passes tops top count (repeats n body tail) = parts_pass tops top count body && list_all (passes top count) tail
-  part_passes tops top count (calls_to k tail) =
-      nat_le (slice_index_or tops k 0) top && list_all (passes top count) tail
-  part_passes tops top count (leaves tail) = false
+-- earlier functions whose windows end before a register
+abbrev pub may_pass : List ℕ → ℕ → ℕ → ℕ → Bool
+may_pass tops number top k = nat_lt k number && nat_le (slice_index_or tops k 0) top
 
-  pub parts_pass : List ℕ → ℕ → ℕ → PlainParts → Bool
-  parts_pass tops top count no_part = true
-  parts_pass tops top count (part p rest) = part_passes tops top count p && parts_pass tops top count rest
+abbrev pub Low : List ℕ → ℕ → ℕ → ℕ → PlainParts → Type 0
+Low tops number top count ps = parts_have (is_in (low top count)) (may_pass tops number top) ps ≡ true
 
 -- where a function begins
 pub passes_begun : (top count : ℕ) (m : Run) → IsWhole m → Passes top count m (begun m)
@@ -215,58 +179,19 @@ passes_begun top count m whole = record {
   };
 }
 
-pub enough_still : {top count low : ℕ} {m t : Run} → Passes top count m t → low ≤ m.st → low ≤ t.st
-enough_still {top} {count} {low} {m} {t} p enough = subst (λ st. low ≤ st) (sym p.keeps.st) enough
+passes_called : (from : Sources) (f : ℕ → List Step) (tops : List ℕ) (number least top count : ℕ)
+    → AllPass from f tops number least → (k : ℕ) → may_pass tops number top k ≡ true → (m : Run) → Ready least m
+    → Passes top count m (run from (begins ∷ f k) m)
+passes_called from f tops number least top count others k may m ready =
+    let both = and_parts (nat_lt k number) (nat_le (slice_index_or tops k 0) top) may in
+    let first = passes_begun top count m ready.0 in
+    passes_then first (passes_more (leb-true (slice_index_or tops k 0) top both.1) (omega arith)
+    (others.called k (ltb-true k number both.0) (begun m) (ready_still ready first)))
 
-passes_copies : (from : Sources) (top count low n : ℕ) (iteration : List Step) → ((m : Run) → IsWhole m → low ≤ m.st
-    → Passes top count m (run from iteration m))
-    → (m : Run) → IsWhole m → low ≤ m.st → Passes top count m (run from (copies n iteration) m)
-passes_copies from top count low zero iteration one m whole enough = passes_all top count m whole
-passes_copies from top count low (suc n) iteration one m whole enough =
-    let p = one m whole enough in
-    subst (Passes top count m) (sym (run_append from iteration (copies n iteration) m))
-    (passes_then p (passes_copies from top count low n iteration one (run from iteration m) p.whole
-    (enough_still p enough)))
-
-mutual
-  pub passes_part : (from : Sources) (f : ℕ → List Step) (tops : List ℕ) (number low top count : ℕ) → count ≤ 128
-      → AllPass from f tops number low → (p : PlainPart) → part_formed number p ≡ true → part_passes tops top count p
-      ≡ true
-      → (m : Run) → IsWhole m → low ≤ m.st → Passes top count m (run from (part_trail f p) m)
-  passes_part from f tops number low top count few others (straight bs) formed each m whole enough =
-      passes_done from top count bs m few whole each
-  passes_part from f tops number low top count few others (repeats n body tail) formed each m whole enough =
-      let a = and_parts (nat_lt 0 n) (parts_formed number body && is_iteration tail) formed in
-      let b = and_parts (parts_formed number body) (is_iteration tail) a.1 in
-      let c = and_parts (parts_pass tops top count body) (list_all (passes top count) tail) each in
-      passes_copies from top count low n (parts_trail f body ++ all_done tail) (λ t rest room.
-      let p = passes_parts from f tops number low top count few others body b.0 c.0 t rest room in
-      subst (Passes top count t) (sym (run_append from (parts_trail f body) (all_done tail) t))
-      (passes_then p (passes_done from top count tail (run from (parts_trail f body) t) few p.whole c.1))) m whole
-      enough
-  passes_part from f tops number low top count few others (calls_to k tail) formed each m whole enough =
-      let a = and_parts (nat_lt k number) (is_way is_call tail) formed in
-      let c = and_parts (nat_le (slice_index_or tops k 0) top) (list_all (passes top count) tail) each in
-      let p = passes_done from top count tail m few whole c.1 in
-      let n = run from (all_done tail) m in
-      let q = passes_begun top count n p.whole in
-      let r = passes_more (leb-true (slice_index_or tops k 0) top c.0) (omega arith)
-      (others.called k (ltb-true k number a.0) (begun n) q.whole (enough_still (passes_then p q) enough)) in
-      subst (Passes top count m) (sym (run_append from (all_done tail) (begins ∷ f k) m))
-      (passes_then p (passes_then q r))
-  passes_part from f tops number low top count few others (leaves tail) formed each m whole enough =
-      absurd (true≢false (sym formed))
-
-  pub passes_parts : (from : Sources) (f : ℕ → List Step) (tops : List ℕ) (number low top count : ℕ) → count ≤ 128
-      → AllPass from f tops number low → (ps : PlainParts) → parts_formed number ps ≡ true
-      → parts_pass tops top count ps ≡ true
-      → (m : Run) → IsWhole m → low ≤ m.st → Passes top count m (run from (parts_trail f ps) m)
-  passes_parts from f tops number low top count few others no_part formed each m whole enough =
-      passes_all top count m whole
-  passes_parts from f tops number low top count few others (part p rest) formed each m whole enough =
-      let a = and_parts (part_formed number p) (parts_formed number rest) formed in
-      let c = and_parts (part_passes tops top count p) (parts_pass tops top count rest) each in
-      let one = passes_part from f tops number low top count few others p a.0 c.0 m whole enough in
-      subst (Passes top count m) (sym (run_append from (part_trail f p) (parts_trail f rest) m))
-      (passes_then one (passes_parts from f tops number low top count few others rest a.1 c.1
-      (run from (part_trail f p) m) one.whole (enough_still one enough)))
+pub passes_parts : (from : Sources) (f : ℕ → List Step) (tops : List ℕ) (number least top count : ℕ) → count ≤ 128
+    → AllPass from f tops number least → (ps : PlainParts) → Low tops number top count ps → (m : Run) → Ready least m
+    → Passes top count m (run from (parts_trail f ps) m)
+passes_parts from f tops number least top count few others ps all m ready =
+    run_parts from (Ready least) (Passes top count) (passing top count least) (is_in (low top count))
+    (λ b m within ready. passes_once from top count few b m within ready.0) f (may_pass tops number top)
+    (passes_called from f tops number least top count others) ps all m ready

@@ -21,7 +21,7 @@ use Rattle.sp_emit.specs.Holding.{held, so}
 use Rattle.sp_emit.specs.Instructions.{always, where_so, set_short, copy, with_short, compute, compare, compare_short, combine}
 use Rattle.sp_emit.specs.declared.registers.TheConstants.{DIVIDEND, DIVISOR, REMAINDER, DIGITS, TEST, SECOND}
 use Rattle.sp_emit.proofs.Digits.{iterated, divides_words, divides_by_zero, quotient_word, rest_word}
-use Rattle.sp_emit.proofs.Calm.{calm_run}
+use Rattle.sp_emit.proofs.Calm.{calm_done, calm_copies}
 use Rattle.sp_emit.proofs.Dividing.{Divides, written_where, run_before, digits_done}
 use Rattle.sp_emit.proofs.Leaving.{did_compare, did_compare_short, did_combine, did_set_short}
 use Rattle.sp_emit.proofs.Once.{with_written, did_write, did_nothing, whole_written, held_written, so_written, got, kept, kept_by_pred, so_got, so_kept, so_by_register}
@@ -419,8 +419,8 @@ unsigned_divided : (from : Sources) (ra rb a b : ℕ) (m : Run) → IsWhole m �
 unsigned_divided from ra rb a b m whole low few is_a is_b word_a word_b =
     let before = operands ra rb ++ highest_bit ∷ [] in
     let n = run from (all_done before) m in
-    let k1 = calm_run from 27 0 (all_done before) m (omega arith) whole refl in
-    let k2 = calm_run from 27 0 (copies 8 (all_done digit_tail)) n (omega arith) k1.whole refl in
+    let k1 = calm_done from 27 0 before m (omega arith) whole refl in
+    let k2 = calm_copies from 27 0 8 digit_tail n (omega arith) k1.whole refl in
     record {
       divides = digits_done from _ a b (run from (all_done (operands ra rb)) m)
           (starts from ra rb a b m whole few is_a is_b word_a word_b);

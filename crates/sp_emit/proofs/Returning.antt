@@ -24,8 +24,8 @@ use Rattle.sp_emit.specs.Serving.{Carries}
 use Rattle.sp_emit.specs.declared.registers.TheConstants.{RESULT, MASK, SPARE, OVERRUN}
 use Rattle.sp_emit.proofs.Arguments.{did_stack}
 use Rattle.sp_emit.proofs.Calling.{Begins, idle_begins}
-use Rattle.sp_emit.proofs.Calm.{is_calm_trail, calm_run}
-use Rattle.sp_emit.proofs.CalmCode.{own_free}
+use Rattle.sp_emit.proofs.Calm.{calm, calm_done, own_free}
+use Rattle.sp_emit.proofs.Effects.{AreIn}
 use Rattle.sp_emit.proofs.WordPlaces.{word_still, read_is, read_leaves}
 use Rattle.sp_emit.proofs.Quotients.{did_copy}
 use Rattle.sp_emit.proofs.Once.{behind_slot, slot_after, unchanged, with_regs, did_write, whole_written, held_written, kept_by_special}
@@ -55,8 +55,7 @@ ends_calm homes w m n b x k = record {
 ends_special : (homes : ℕ) (w : World) (m n : Run) (slot : ℕ) (s : WritableSpecial) → Ends homes w m n
     → Ends homes w m (once by_words (to_special s SPARE) (once by_words (load_slot SPARE slot) n))
 ends_special homes w m n slot s x =
-    let y = ends_calm homes w m n (load_slot SPARE slot) x (calm_run by_words SPARE homes
-    (all_done (load_slot SPARE slot ∷ [])) n (omega arith) x.carries.whole refl) in
+    let y = ends_calm homes w m n (load_slot SPARE slot) x (calm_done by_words SPARE homes (load_slot SPARE slot ∷ []) n (omega arith) x.carries.whole refl) in
     let n1 = once by_words (load_slot SPARE slot) n in
     let v = held SPARE n1 in
     subst (Ends homes w m) (sym (did_write by_words always (ToSpecial s SPARE) n1 y.carries.whole
@@ -141,15 +140,15 @@ gives_value : (homes : ℕ) (w : World) (frame slot v : ℕ) (m n : Run) → End
 gives_value homes w frame slot v m n b within few value word =
     let own = own_free 1 homes RESULT (omega arith) (omega arith) (omega (arith, within)) in
     let c = ends_calm homes w m n (read_word homes RESULT slot) b
-    (calm_run by_words 1 homes (all_done (read_word homes RESULT slot ∷ [])) n (omega arith) b.carries.whole
-    (read_is (λ b. is_calm_trail 1 homes (all_done (b ∷ [])) ≡ true) homes RESULT slot (grind (arith, own))
+    (calm_done by_words 1 homes (read_word homes RESULT slot ∷ []) n (omega arith) b.carries.whole
+    (read_is (λ b. AreIn (calm 1 homes) (b ∷ [])) homes RESULT slot (grind (arith, own))
     (λ out. grind (arith, own)))) in
     let n1 = once by_words (read_word homes RESULT slot) n in
     let same : word_of homes slot n ≡ v = word_still homes slot m n b.high b.stack b.st ∙ value in
     let is : held RESULT n1 ≡ v = read_leaves by_words homes RESULT slot n refl b.carries.whole (omega arith)
     (omega arith) few (subst (λ x. x < 2 ^ 32) (sym same) word) ∙ same in
     let free_mask = own_free 2 homes MASK (omega arith) (omega arith) within in
-    let k = calm_run by_words 2 homes (all_done (copy MASK OVERRUN ∷ [])) n1 (omega arith) c.carries.whole
+    let k = calm_done by_words 2 homes (copy MASK OVERRUN ∷ []) n1 (omega arith) c.carries.whole
     (grind (arith, free_mask)) in
     let n2 = once by_words (copy MASK OVERRUN) n1 in
     let free = frees frame n2 k.whole in

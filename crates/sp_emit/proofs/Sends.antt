@@ -32,8 +32,7 @@ use Rattle.sp_shape.specs.Parts.{straight, one}
 use Rattle.sp_emit.specs.Expressions.{expr_code}
 use Rattle.sp_emit.specs.declared.registers.TheConstants.{FIRST, SPARE, TEST, SECOND}
 use Rattle.sp_tree.specs.Need.{need}
-use Rattle.sp_emit.proofs.CalmCode.{own_free}
-use Rattle.sp_emit.proofs.Calm.{calm_run}
+use Rattle.sp_emit.proofs.Calm.{calm_done, own_free}
 use Rattle.sp_emit.proofs.CellWrites.{follows_world}
 use Rattle.sp_emit.proofs.Frames.{put_same}
 use Rattle.sp_emit.proofs.Passing.{keeps_then}
@@ -205,7 +204,7 @@ tests_send homes from core told few other within b source target count m whole t
     let s8 = so_written w8 SECOND m7 h7 (omega arith) ∙ ap (λ n. nat_le n (held SPARE m7)) target7
     ∙ ap (nat_le target) left7 in
     record {
-      keeps = calm_run from (FIRST + 3) homes.first (all_done (send_test told)) m (omega arith) whole
+      keeps = calm_done from (FIRST + 3) homes.first (send_test told) m (omega arith) whole
           (let free = own_free (FIRST + 3) homes.first (FIRST + 3) (omega arith) (omega arith) within in
           grind (arith, free));
       test = ap (so TEST) steps ∙ so_written w9 TEST m8 h8 (omega arith) ∙ ap (λ x. x && so SECOND m8) t8
@@ -368,7 +367,7 @@ send_done homes f frame counter slots mask core source target count s m most mas
     let w = once by_words (set_long SPARE address) v in
     let set = did_set_long by_words SPARE address v allowed.keeps.whole in
     let number = (0 + address) % 2 ^ 32 in
-    let kw = calm_run by_words SPARE homes.first (all_done (set_long SPARE address ∷ [])) v
+    let kw = calm_done by_words SPARE homes.first (set_long SPARE address ∷ []) v
     (omega arith) allowed.keeps.whole refl in
     let test = ap (so TEST) set ∙ so_by_register SPARE number TEST v allowed.keeps.whole (omega arith) ∙ allowed.test
     ∙ ap (λ on. b && on) (starts_alike (worth source s) (worth target s) (worth count s) (value_small source ra)

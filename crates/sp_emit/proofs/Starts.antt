@@ -20,9 +20,11 @@ use Rattle.sp_emit.specs.Statements.{send_test, send_start, send_code}
 use Rattle.sp_emit.specs.declared.registers.TheConstants.{FIRST, SPARE, OVERRUN, TEST}
 use Rattle.sp_emit.proofs.Frames.{put_same}
 use Rattle.sp_emit.proofs.Once.{did_nothing, so_by_register}
-use Rattle.sp_emit.proofs.Calm.{is_calm_trail, calm_run}
+use Rattle.sp_emit.proofs.Calm.{calm, calm_done}
+use Rattle.sp_emit.proofs.Effects.{AreIn}
 use Rattle.sp_emit.proofs.Leaving.{constant_leaves, did_set_long}
-use Rattle.sp_emit.proofs.Portless.{portless_start, start_append, portless_test}
+use Rattle.sp_emit.proofs.Portless.{portless_start, start_append, unwritten, unwritten_start}
+use Rattle.sp_emit.proofs.Footprints.{mask_test_in}
 use Rattle.sp_emit.proofs.WordPlaces.{fetch_is}
 use Rattle.sp_emit.specs.Places.{fetched_at, mask_test, told_at}
 use Rattle.sp_emit.proofs.FlagWords.{test_is, told_few, told_other}
@@ -102,11 +104,11 @@ pub send_starts : (homes : Homes) (from : Sources) (mask core : ℕ) (m : Run) �
 send_starts homes from mask core m few whole word_a word_b word_c =
     let address = 0x20000 + 16 * core in
     let u = run from (all_done (mask_test homes mask)) m in
-    let k = calm_run from (FIRST + 3) OVERRUN (all_done (mask_test homes mask)) m (omega arith) whole
-    (test_is (λ bs. is_calm_trail (FIRST + 3) OVERRUN (all_done bs) ≡ true) homes mask (λ p is. refl)
+    let k = calm_done from (FIRST + 3) OVERRUN (mask_test homes mask) m (omega arith) whole
+    (test_is (λ bs. AreIn (calm (FIRST + 3) OVERRUN) bs) homes mask (λ p is. refl)
     (λ is. fetch_is
-    (λ b. is_calm_trail (FIRST + 3) OVERRUN (all_done (b ∷ compare_short cmp.Eq TEST (fetched_at homes.first mask) 1
-    ∷ [])) ≡ true) homes.first mask refl (λ out. refl))) in
+    (λ b. AreIn (calm (FIRST + 3) OVERRUN) (b ∷ compare_short cmp.Eq TEST (fetched_at homes.first mask) 1
+    ∷ [])) homes.first mask refl (λ out. refl))) in
     let told = told_at homes mask in
     let b = so told u in
     let allowed = tests_send (record { first = OVERRUN; flags = homes.flags }) from core told (told_few homes mask).1
@@ -115,7 +117,7 @@ send_starts homes from mask core m few whole word_a word_b word_c =
     let v = run from (all_done (send_test told)) u in
     let w = once from (set_long SPARE address) v in
     let set = did_set_long from SPARE address v allowed.keeps.whole in
-    let kw = calm_run from SPARE OVERRUN (all_done (set_long SPARE address ∷ [])) v
+    let kw = calm_done from SPARE OVERRUN (set_long SPARE address ∷ []) v
     (omega arith) allowed.keeps.whole refl in
     let test : so TEST w ≡ (b && code_starts (held FIRST u) (held (FIRST + 1) u) (held (FIRST + 2) u)) =
     ap (so TEST) set ∙ so_by_register SPARE ((0 + address) % 2 ^ 32) TEST v allowed.keeps.whole (omega arith)
@@ -134,7 +136,7 @@ send_starts homes from mask core m few whole word_a word_b word_c =
     (constant_leaves from SPARE address v allowed.keeps.whole (omega arith) (omega arith) (omega (arith, few)))
     ok in
     start_append from (all_done (mask_test homes mask)) (all_done (send_test told ++ send_start core)) m
-    (portless_start from (mask_test homes mask) m (portless_test homes mask))
+    (unwritten_start from unwritten refl (mask_test homes mask) m (mask_test_in unwritten homes mask (λ out. refl)))
     (start_append from (all_done (send_test told)) (all_done (send_start core)) u
     (portless_start from (send_test told) u refl) (
       (portless_start from (set_long SPARE address ∷ []) v refl).0,

@@ -32,8 +32,8 @@ use Rattle.sp_emit.specs.Holding.{held, so}
 use Rattle.sp_emit.specs.Instructions.{always, where_so, set_long, store_to, set_number}
 use Rattle.sp_emit.specs.Statements.{masked_store, cell_write, element_write, send_test, send_code}
 use Rattle.sp_emit.specs.declared.registers.TheConstants.{FIRST, SPARE, OVERRUN, TEST, SECOND}
-use Rattle.sp_emit.proofs.Accessing.{asks_none, asks_then, near_run, nearby, all_near, near_seek, near_match}
-use Rattle.sp_emit.proofs.Footprints.{number_in, address_in}
+use Rattle.sp_emit.proofs.Accessing.{asks_none, asks_then, near_run, nearby}
+use Rattle.sp_emit.proofs.Footprints.{number_in, address_in, seek_in, match_in, mask_test_in}
 use Rattle.sp_emit.proofs.Aligned.{stored_aligned}
 use Rattle.sp_emit.proofs.Cells.{cell_in, cell_found, element_found, few_words, first_small}
 use Rattle.sp_emit.proofs.Leaving.{constant_leaves, number_leaves}
@@ -41,7 +41,7 @@ use Rattle.sp_emit.proofs.Offsets.{offset_small}
 use Rattle.sp_emit.proofs.Reaching.{before_0, word_0, did_at_word_0, not_at_word_0}
 use Rattle.sp_emit.proofs.Once.{with_written, did_nothing, whole_written, got}
 use Rattle.sp_emit.proofs.TargetWrites.{element_address_made, reaches}
-use Rattle.sp_emit.proofs.Portless.{portless_start, start_append, portless_test, portless, all_portless}
+use Rattle.sp_emit.proofs.Portless.{portless_start, start_append, unwritten, unwritten_start}
 use Rattle.sp_emit.proofs.Starts.{send_starts}
 use Rattle.sp_emit.proofs.Storing.{with_store, did_store}
 use Rattle.sp_emit.specs.Places.{mask_test, told_at}
@@ -200,9 +200,8 @@ cell_write_asks homes Named mask c formed named =
         let h = run_whole from (all_done (mask_test homes mask)) m whole in
         let u = once from (set_number SPARE at) n in
         let hu = run_whole from (all_done (set_number SPARE at ∷ [])) n h in
-        asks_then (near_run Named from (mask_test homes mask) m whole (rw (near_seek homes mask, near_match homes mask)
-        refl)) (asks_then (near_run Named from (set_number SPARE at ∷ []) n h (all_near (set_number SPARE at ∷ [])
-        (rw (number_in nearby SPARE at refl) refl)))
+        asks_then (near_run Named from (mask_test homes mask) m whole
+        (mask_test_in nearby homes mask (λ out. refl))) (asks_then (near_run Named from (set_number SPARE at ∷ []) n h (rw (number_in nearby SPARE at refl) refl))
         (masked_asks Named from (cell_space c.region) told SPARE 0 at (so told u) u (omega arith) (omega arith)
         (omega arith) hu refl
         (λ on. ap (λ a. address_by a 0 4) (number_leaves from SPARE at n h (omega arith) (omega arith) small)
@@ -216,9 +215,10 @@ cell_write_asks homes Named mask c formed named =
         let u = once from (set_number SPARE at) n in
         start_append from (all_done (mask_test homes mask))
         (all_done (set_number SPARE at ∷ masked_store told (cell_space c.region) SPARE 0)) m
-        (portless_start from (mask_test homes mask) m (portless_test homes mask)) (
-          (portless_start from (set_number SPARE at ∷ []) n (all_portless (set_number SPARE at ∷ [])
-              (rw (number_in portless SPARE at refl) refl))).0,
+        (unwritten_start from unwritten refl (mask_test homes mask) m
+        (mask_test_in unwritten homes mask (λ out. refl))) (
+          (unwritten_start from unwritten refl (set_number SPARE at ∷ []) n
+              (rw (number_in unwritten SPARE at refl) refl)).0,
           masked_starts from (cell_space c.region) told SPARE 0 at (so told u) u refl
               (λ on. ap (λ a. address_by a 0 4) (number_leaves from SPARE at n h (omega arith) (omega arith) small)
               ∙ omega (arith, small))
@@ -256,10 +256,10 @@ element_write_asks homes Named mask a formed named =
         (first_small a.region a.first (omega (arith, within))) in
         let less : (b && nat_lt i a.length) ≡ true → i < a.length =
         λ on. ltb-true i a.length (and_parts b (nat_lt i a.length) on).1 in
-        asks_then (near_run Named from (mask_test homes mask) m whole (rw (near_seek homes mask, near_match homes mask)
-        refl)) (asks_then (near_run Named from made n h (all_near made
+        asks_then (near_run Named from (mask_test homes mask) m whole
+        (mask_test_in nearby homes mask (λ out. refl))) (asks_then (near_run Named from made n h
         (let p = address_in nearby a SECOND (FIRST + 1) (FIRST + 1) refl refl in
-        rw (p.length, p.below, p.base, p.scaled) refl)))
+        rw (p.length, p.below, p.base, p.scaled) refl))
         (masked_asks Named from (array_space a.region) TEST (FIRST + 1) (offset_of a)
         (address_of a.region (a.first + i)) (b && nat_lt i a.length) u (omega arith) (omega arith) (offset_small a)
         r.keeps.whole r.test
@@ -291,11 +291,12 @@ element_write_asks homes Named mask a formed named =
         λ on. ltb-true i a.length (and_parts b (nat_lt i a.length) on).1 in
         start_append from (all_done (mask_test homes mask))
         (all_done (made ++ masked_store TEST (array_space a.region) (FIRST + 1) (offset_of a))) m
-        (portless_start from (mask_test homes mask) m (portless_test homes mask))
+        (unwritten_start from unwritten refl (mask_test homes mask) m
+        (mask_test_in unwritten homes mask (λ out. refl)))
         (start_append from (all_done made) (all_done (masked_store TEST (array_space a.region) (FIRST + 1)
-        (offset_of a))) n (portless_start from made n (all_portless made
-        (let p = address_in portless a SECOND (FIRST + 1) (FIRST + 1) refl refl in
-        rw (p.length, p.below, p.base, p.scaled) refl)))
+        (offset_of a))) n (unwritten_start from unwritten refl made n
+        (let p = address_in unwritten a SECOND (FIRST + 1) (FIRST + 1) refl refl in
+        rw (p.length, p.below, p.base, p.scaled) refl))
         (masked_starts from (array_space a.region) TEST (FIRST + 1) (offset_of a) (address_of a.region (a.first + i))
         (b && nat_lt i a.length) u r.test
         (λ on. r.address (omega (arith, within, less on)))
@@ -349,7 +350,8 @@ send_asks homes Named mask core few named = record {
         let u2 = once from (store_to (where_so TEST) mem.L SPARE (FIRST + 1) 1) u1 in
         let h2 = run_whole from (all_done (store_to (where_so TEST) mem.L SPARE (FIRST + 1) 1 ∷ [])) u1 h1 in
         let at2 = same from (FIRST + 1) 1 u1 h1 ∙ at1 in
-        asks_then (near_run Named from before m whole (rw (near_seek homes mask, near_match homes mask) refl))
+        asks_then (near_run Named from before m whole
+        (rw (seek_in nearby homes mask (λ out. refl), match_in nearby homes mask) refl))
         (asks_then (port from FIRST 0 u (omega arith) hu at)
         (asks_then (port from (FIRST + 1) 1 u1 (omega arith) h1 at1)
         (port from (FIRST + 2) 2 u2 (omega arith) h2 at2)))

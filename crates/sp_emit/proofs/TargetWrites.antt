@@ -29,9 +29,8 @@ use Rattle.sp_emit.specs.Statements.{cell_write, element_write, masked_store, ta
 use Rattle.sp_emit.specs.declared.registers.TheConstants.{FIRST, SPARE, OVERRUN, TEST, SECOND}
 use Rattle.sp_tree.specs.Need.{need}
 use Rattle.sp_emit.proofs.Needs.{some_need}
-use Rattle.sp_emit.proofs.Footprints.{number_in}
-use Rattle.sp_emit.proofs.CalmCode.{own_free, spare_free, calm, all_calm, address_calm}
-use Rattle.sp_emit.proofs.Calm.{calm_run}
+use Rattle.sp_emit.proofs.Footprints.{number_in, address_in}
+use Rattle.sp_emit.proofs.Calm.{calm, calm_done, own_free, spare_free}
 use Rattle.sp_emit.proofs.CellWrites.{with_where, local_store, main_store, cached_is_plain, main_is_plain}
 use Rattle.sp_emit.proofs.Cells.{cell_found, element_found, few_words, first_small}
 use Rattle.sp_emit.proofs.Leaving.{did_set_number, did_combine}
@@ -112,10 +111,9 @@ cell_done homes f frame counter slots mask c e s m most masked cell formed const
     let lies = ltb-true c.word (room_in c.region all_rooms) (and_parts (nat_le (first_of c.region) c.word)
     (nat_lt c.word (room_in c.region all_rooms)) cell).1 in
     let u2 = once by_words (set_number SPARE address) u in
-    let long = calm_run by_words SPARE homes.first (all_done (set_number SPARE address ∷ [])) u
-    (omega arith) t.keeps.whole (all_calm SPARE homes.first (omega arith) (set_number SPARE address ∷ [])
-    (rw (number_in (calm SPARE homes.first (omega arith)) SPARE address (spare_free SPARE homes.first SPARE
-    (omega arith) (omega arith))) refl)) in
+    let long = calm_done by_words SPARE homes.first (set_number SPARE address ∷ []) u
+    (omega arith) t.keeps.whole (rw (number_in (calm SPARE homes.first) SPARE address (spare_free SPARE homes.first SPARE
+    (omega arith))) refl) in
     let v = (0 + address) % 2 ^ 32 in
     let set = did_set_number by_words SPARE address u t.keeps.whole in
     let small = first_small c.region c.word (omega (arith, lies)) in
@@ -194,10 +192,10 @@ reaches homes from told b v index a u few other within whole test is len_small a
     let steps = ap (λ t. once from (under always (scaled_op a (FIRST + 1) (FIRST + 1)))
     (once from (under always (base_op a)) t)) joins in
     record {
-      keeps = calm_run from (FIRST + 1) homes.first (all_done (element_address_made [] told a)) u (omega arith) whole (
+      keeps = calm_done from (FIRST + 1) homes.first (element_address_made [] told a) u (omega arith) whole (
           let free = own_free (FIRST + 1) homes.first (FIRST + 1) (omega arith) (omega arith) within in
           let address =
-          address_calm (FIRST + 1) homes.first (omega arith) a SECOND (FIRST + 1) (FIRST + 1) refl free in
+          address_in (calm (FIRST + 1) homes.first) a SECOND (FIRST + 1) (FIRST + 1) refl free in
           rw (address.length, address.below, address.base, address.scaled) refl
           );
       test = ap (so TEST) steps ∙ s.preds TEST (omega arith) ∙ so_got TEST both n c.whole (omega arith) (omega arith)

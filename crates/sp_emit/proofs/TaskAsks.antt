@@ -1,38 +1,37 @@
 -- The code of statements, functions and tasks asks for what their trees name.
-use Rattle.std.proofs.Common.{◌≡◌, ℕ, zero, suc, ◌+◌, ◌-◌, ◌<◌, ◌≤◌, ◌==◌, ◌⊎◌, inl, inr, Bool, true, false, ◌&&◌, if◌then◌else◌, List, [], ◌∷◌, ◌++◌, length, slice_index_or, nat_lt, refl, sym, subst, arith}
-use Rattle.std.specs.Prelude.{nat_le}
-use Rattle.std.specs.List.{All, list_all}
-use Rattle.std.proofs.lemmas.Bool.{cases_lt, and_parts, ltb-true, eqb-true, eqb-false}
+use Rattle.std.proofs.Common.{◌≡◌, ℕ, zero, suc, ◌+◌, ◌-◌, ◌<◌, ◌≤◌, ◌==◌, Bool, true, ◌&&◌, List, [], ◌∷◌, ◌++◌, length, slice_index_or, nat_lt, refl, sym, subst, arith}
+use Rattle.std.specs.List.{All}
+use Rattle.std.proofs.lemmas.Bool.{lt-ltb, and_parts, ltb-true, eqb-true}
 use Rattle.patmos_instr.specs.Bundles.{PlainBundle}
-use Rattle.patmos_instr.specs.declared.guards.Guard.{Guard}
-use Rattle.patmos_instr.specs.declared.instructions.Op.{Op}
 use Rattle.sp_tree.proofs.Forms.{earlier_one, parts_of_function}
-use Rattle.sp_tree.specs.Formed.{send_formed, target_formed, array_formed, expr_formed, callee_formed, args_formed, result_formed, stmt_formed, stmts_formed, function_formed, functions_formed, entry_formed, is_formed, slots_of}
+use Rattle.sp_tree.specs.Formed.{send_formed, target_formed, array_formed, expr_formed, callee_formed, args_formed, result_formed, stmt_formed, stmts_formed, functions_formed, is_formed, slots_of}
 use Rattle.sp_tree.specs.Plain.{PlainSp}
 use Rattle.sp_tree.specs.Statements.{PlainSpTarget, to_slot, to_cell, to_array, PlainStmt, masks, writes, calls, transfers, overruns, iterations, PlainStmts, no_stmt, stmt, PlainFunction, no_function, PlainUnit}
 use Rattle.sp_tree.specs.Uses.{Use, expr_uses, args_uses, target_uses, stmt_uses, stmts_uses, functions_uses, uses_of}
-use Rattle.sp_shape.specs.Parts.{straight, no_part, one, joined}
+use Rattle.sp_shape.specs.Parts.{straight, one, joined}
 use Rattle.sp_shape.specs.Trail.{Step, all_done, parts_trail, trails, trail}
 use Rattle.sp_emit.specs.Accesses.{AsksOnly}
 use Rattle.sp_emit.specs.Expressions.{operands_code, expr_code}
-use Rattle.sp_emit.specs.Functions.{first_counter, function_begin, function_end, function_rest, function_code, return_tail, places_of, emitted, frame_words}
+use Rattle.sp_emit.specs.Functions.{first_counter, function_begin, function_end, function_rest, function_code, return_tail, emitted, frame_words}
 use Rattle.sp_emit.specs.Statements.{slot_write, cell_write, element_write, target_write, args_code, call_code, send_code, overrun_code, slot_set, iterations_begin, iterations_tail, stmt_code, stmts_code}
 use Rattle.sp_emit.specs.Instructions.{always, where_so, under}
-use Rattle.sp_emit.specs.declared.registers.TheConstants.{RESULT, FIRST, OVERRUN}
-use Rattle.sp_emit.proofs.Accessing.{asks_append, asks_nothing, asks_copies, is_near, near_asks, near_parts, nearby, is_kept, all_near, near_set, near_seek, near_match}
-use Rattle.sp_emit.proofs.Footprints.{read_in}
-use Rattle.sp_emit.proofs.Walks.{Within, wide_within, each_flows, begins, tails}
+use Rattle.sp_emit.specs.declared.registers.TheConstants.{FIRST, OVERRUN}
+use Rattle.sp_emit.proofs.Accessing.{asks_append, asks_nothing, asks_compose, near_asks, near_parts, nearby, near_wide}
+use Rattle.sp_emit.proofs.Effects.{AreIn}
+use Rattle.sp_shape.proofs.Along.{copied}
+use Rattle.sp_emit.proofs.Footprints.{seek_in, match_in, set_in, alu_in}
+use Rattle.sp_emit.proofs.Walks.{Within, wide_within, in_flows, begins, tails}
+use Rattle.sp_emit.proofs.Windows.{InWindow, each_function, unit_parts}
 use Rattle.sp_emit.specs.Flags.{behind_first, begun_body}
-use Rattle.sp_emit.specs.Places.{read_word, set_word, mask_test, told_at}
+use Rattle.sp_emit.specs.Places.{set_word, mask_test, told_at}
 use Rattle.sp_emit.specs.Functions.{codes}
-use Rattle.sp_emit.proofs.Around.{begin_all, end_all}
+use Rattle.sp_emit.proofs.Around.{begins_in, ends_in, wide_begins, wide_ends}
 use Rattle.sp_emit.proofs.BegunBody.{begun_is, begun_formed}
-use Rattle.sp_emit.proofs.Codes.{codes_at, codes_length, code_of}
-use Rattle.sp_emit.proofs.Formed.{call_formed}
+use Rattle.sp_emit.proofs.Codes.{codes_length, code_of}
 use Rattle.sp_emit.proofs.StoreAsks.{cell_write_asks, element_write_asks, send_asks}
 use Rattle.sp_emit.proofs.ValueAsks.{AreNamed, are_named, named_left, named_right, asks_joined, asks_lone, operands_ask, expr_asks, flag_asks}
 use Rattle.sp_emit.proofs.Fitting.{expr_fits}
-use Rattle.sp_emit.proofs.Lasts.{is_alu, write_is}
+use Rattle.sp_emit.proofs.Lasts.{write_is}
 use Rattle.sp_emit.proofs.Operands.{mask_is}
 use Rattle.sp_emit.specs.declared.stands.Homes.{Homes}
 use Rattle.sp_emit.specs.declared.stands.Flags.{Flags}
@@ -57,21 +56,18 @@ args_ask homes Named f slots (e ∷ args) rd most some few formed named =
     (named_right Named (expr_uses e) (args_uses args) named))
 
 -- bundles that reach the stack alone
-near_lone : (Named : Use → Type 0) (f : ℕ → List Step) (bs : List PlainBundle) → list_all is_near bs ≡ true
+near_lone : (Named : Use → Type 0) (f : ℕ → List Step) (bs : List PlainBundle) → AreIn nearby bs
     → AsksOnly Named (parts_trail f (one (straight bs)))
 near_lone Named f bs near = asks_lone f bs (near_asks Named bs near)
-
-alu_near : (to : ℕ) (g : Guard) (op : Op) → is_alu to op ≡ true → is_near (under g op) ≡ true
-alu_near to g op alu = grind (arith, alu)
 
 target_asks : (homes : Homes) (Named : Use → Type 0) (f : ℕ → List Step) (slots mask : ℕ) (target : PlainSpTarget)
     → slots ≤ 128 → target_formed slots target ≡ true → AreNamed Named (target_uses target)
     → AsksOnly Named (parts_trail f (target_write homes mask target))
 target_asks homes Named f slots mask (to_slot slot) most formed named =
     near_lone Named f (slot_write homes mask slot) (rw (
-      near_seek homes mask,
-      near_match homes mask,
-      near_set homes.first (where_so (told_at homes mask)) slot FIRST,
+      seek_in nearby homes mask (λ out. refl),
+      match_in nearby homes mask,
+      set_in nearby homes.first (where_so (told_at homes mask)) slot FIRST refl (λ out. refl),
     ) refl)
 target_asks homes Named f slots mask (to_cell cell) most formed named =
     asks_lone f (cell_write homes mask cell) (cell_write_asks homes Named mask cell formed named.0)
@@ -84,8 +80,11 @@ target_asks homes Named f slots mask (to_array array index) most formed named =
 -- ---- statements, over what earlier functions ask for
 
 everywhere_near : (homes : Homes) (most : ℕ) → Within nearby homes most
-everywhere_near homes most =
-    wide_within nearby (λ r. refl) (λ word. refl) (λ word. refl) homes most (λ slot p is. refl)
+everywhere_near homes most = wide_within near_wide homes most (λ slot p is. refl)
+
+-- earlier functions
+abbrev nat_gt : ℕ → ℕ → Bool
+nat_gt number k = nat_lt k number
 
 mutual
   stmt_asks : (homes : Homes) (Named : Use → Type 0) (f : ℕ → List Step) (fs : List PlainFunction)
@@ -103,7 +102,7 @@ mutual
       (λ plain there. asks_joined f (expr_code homes e FIRST) (slot_set homes.first slot)
       (value_asks homes Named f slots FIRST e most (omega arith) (omega arith) parts.1 named)
       (near_lone Named f (set_word homes.first always slot FIRST ∷ [])
-      (rw (near_set homes.first always slot FIRST) refl)))
+      (rw (set_in nearby homes.first always slot FIRST refl (λ out. refl)) refl)))
   stmt_asks homes Named f fs number slots frame counter called earlier most own (writes mask target e) formed named =
       let parts = and_parts (nat_lt mask slots) (target_formed slots target && expr_formed slots e) formed in
       let targets = and_parts (target_formed slots target) (expr_formed slots e) parts.1 in
@@ -117,9 +116,9 @@ mutual
       asks_joined f (operands_code homes e FIRST) (one (straight last))
       (operands_ask homes Named f e FIRST (omega arith) (expr_fits slots FIRST e most (omega arith) targets.1) uses)
       (near_lone Named f last (rw (
-        near_seek homes mask,
-        near_match homes mask,
-        alu_near (homes.first + slot) (where_so (told_at homes mask)) op gives.alu,
+        seek_in nearby homes mask (λ out. refl),
+        match_in nearby homes mask,
+        alu_in nearby (where_so (told_at homes mask)) (homes.first + slot) op gives.alu refl,
       ) refl)))
   stmt_asks homes Named f fs number slots frame counter called earlier most own
       (calls mask k args result) formed named =
@@ -134,10 +133,11 @@ mutual
       asks_joined f (args_code homes args FIRST) (call_code homes frame mask k result)
       (args_ask homes Named f slots args FIRST most (omega arith)
       (omega (arith, few, eqb-true (length args) (slice_index_or fs k no_function).parameters callee.1)) c.0 named)
-      (near_parts Named f number called (call_code homes frame mask k result)
-      (call_formed homes number slots frame mask k result callee.0 (ltb-true mask slots a.0) c.1 own)
-      ((each_flows nearby refl is_near is_kept [] fs number slots frame (everywhere_near homes slots) (omega arith) own
-      refl refl).called mask k result (ltb-true mask slots a.0) (ltb-true k number callee.0) (omega arith) c.1 tt))
+      (near_parts Named f (nat_gt number) (λ k less. called k (ltb-true k number less))
+      (call_code homes frame mask k result)
+      ((in_flows (record { branches = refl; calls = refl; brings = λ count. refl }) (nat_gt number) [] fs number slots
+      frame {Calls = λ k. Unit {0}} (everywhere_near homes slots) (omega arith) own (λ k less window called. lt-ltb k number less)).called mask k
+      result (ltb-true mask slots a.0) (ltb-true k number callee.0) (omega arith) c.1 tt))
   stmt_asks homes Named f fs number slots frame counter called earlier most own
       (transfers mask core source target count) formed named =
       let parts = and_parts (nat_lt mask slots) (send_formed slots core source target count) formed in
@@ -161,17 +161,17 @@ mutual
       let parts = and_parts (nat_lt mask slots) (expr_formed slots e) formed in
       asks_joined f (expr_code homes e FIRST) (one (straight (overrun_code homes mask)))
       (value_asks homes Named f slots FIRST e most (omega arith) (omega arith) parts.1 named)
-      (near_lone Named f (overrun_code homes mask) (rw (near_seek homes mask, near_match homes mask) refl))
+      (near_lone Named f (overrun_code homes mask) (rw (seek_in nearby homes mask (λ out. refl), match_in nearby homes mask) refl))
   stmt_asks homes Named f fs number slots frame counter called earlier most own (iterations count body) formed named =
       let parts = and_parts (nat_lt 0 count) (stmts_formed fs number slots body) formed in
       let code = stmts_code homes frame (counter - 1) body in
       let x = everywhere_near homes counter in
       asks_append (near_asks Named (iterations_begin homes.first counter count)
-      (all_near (iterations_begin homes.first counter count) (begins x counter count (omega arith))))
-      (asks_append (asks_copies count (parts_trail f code ++ all_done (iterations_tail homes.first counter))
-      (asks_append (stmts_ask homes Named f fs number slots frame (counter - 1) called earlier most own body
+      (begins x counter count (omega arith)))
+      (asks_append (copied (AsksOnly Named) (asks_compose Named) count
+      (parts_trail f code ++ all_done (iterations_tail homes.first counter)) (asks_append (stmts_ask homes Named f fs number slots frame (counter - 1) called earlier most own body
       parts.1 named) (near_asks Named (iterations_tail homes.first counter)
-      (all_near (iterations_tail homes.first counter) (tails x counter (omega arith) refl))))) (asks_nothing Named))
+      (tails x counter (omega arith) refl)))) (asks_nothing Named))
 
   stmts_ask : (homes : Homes) (Named : Use → Type 0) (f : ℕ → List Step) (fs : List PlainFunction)
       (number slots frame counter : ℕ) → ((k : ℕ) → k < number → AsksOnly Named (f k)) → functions_formed fs number
@@ -198,22 +198,20 @@ begun_named Named flags f named = begun_is (λ ts. AreNamed Named (stmts_uses ts
     behind no_stmt named = named
     behind (stmt t rest) named = named_right Named (stmt_uses t) (stmts_uses rest) named
 
-function_asks : (homes : Homes) (Named : Use → Type 0) (code : ℕ → List Step) (fs : List PlainFunction) (number : ℕ)
-    (f : PlainFunction) → ((k : ℕ) → k < number → AsksOnly Named (code k)) → functions_formed fs number ≡ true
-    → function_formed fs number f ≡ true → FIRST ≤ homes.first
+function_asks : {homes : Homes} {tops : List ℕ} (Named : Use → Type 0) (code : ℕ → List Step) (fs : List PlainFunction)
+    (number : ℕ) {f : PlainFunction} → InWindow homes tops fs number f → ((k : ℕ) → k < number → AsksOnly Named (code k))
     → AreNamed Named (stmts_uses f.body) → AsksOnly Named (parts_trail code (function_code homes f))
-function_asks homes Named code fs number f called earlier formed own named =
-    let p = parts_of_function fs number f formed in
+function_asks {homes} Named code fs number {f} w called named =
+    let p = w.parts in
     let body = begun_body homes.flags f in
-    asks_append (near_asks Named (function_begin homes f) (begin_all is_near homes f refl (λ r. refl)
-    (λ slot rs. near_set homes.first always slot rs) refl (λ slot p is. refl) (λ p is. refl) refl))
+    asks_append (near_asks Named (function_begin homes f)
+    (begins_in (wide_begins near_wide homes f (λ slot p is. refl)) p refl))
     (asks_joined code (stmts_code homes (frame_words homes.first f) (first_counter f) body)
     (function_rest homes.first f) (stmts_ask homes Named code fs number (slots_of f) (frame_words homes.first f)
-    (first_counter f) called earlier (omega (arith, p.room, p.frame)) own body
+    (first_counter f) called w.homed.earlier w.homed.most w.homed.own body
     (begun_formed homes.flags fs number (slots_of f) f p.body) (begun_named Named homes.flags f named))
-    (asks_append (near_asks Named (function_end homes.first f) (end_all is_near homes.first f refl
-    (is_kept (read_word homes.first RESULT f.result)
-    (read_in nearby homes.first RESULT f.result refl (λ out. refl))) refl refl))
+    (asks_append (near_asks Named (function_end homes.first f)
+    (ends_in (wide_ends near_wide refl homes.first f) refl))
     (asks_append (near_asks Named return_tail refl)
     (asks_nothing Named))))
 
@@ -227,33 +225,15 @@ function_named Named (f ∷ fs) (suc k) named less =
 
 functions_ask : (Named : Use → Type 0) (fs : List PlainFunction) → AreNamed Named (functions_uses fs) → (n : ℕ)
     → n ≤ length fs → functions_formed fs n ≡ true → (k : ℕ) → k < n → AsksOnly Named (code_of fs n k)
-functions_ask Named fs named zero within formed k less = absurd (omega (arith, less))
-functions_ask Named fs named (suc n) within formed k less =
-    let parts = and_parts (functions_formed fs n) (function_formed fs n (slice_index_or fs n no_function)) formed in
-    by parts.0 parts.1 (functions_ask Named fs named n (omega (arith, within)) parts.0) (k == n) refl
-  where
-    by : functions_formed fs n ≡ true → function_formed fs n (slice_index_or fs n no_function) ≡ true
-        → ((j : ℕ) → j < n → AsksOnly Named (code_of fs n j)) → (b : Bool) → (k == n) ≡ b
-        → AsksOnly Named (if b then parts_trail (code_of fs n) (slice_index_or (codes fs) n no_part) else
-        code_of fs n k)
-    by earlier own before true is =
-        subst (λ c. AsksOnly Named (parts_trail (code_of fs n) c)) (sym (codes_at fs n (omega (arith, within))))
-        (function_asks (places_of fs n) Named (code_of fs n) fs n (slice_index_or fs n no_function) before earlier own
-        (omega arith) (function_named Named fs n named (omega (arith, within))))
-    by earlier own before false other = before k (less_still (cases_lt k n))
-      where
-        less_still : (k < n) ⊎ (n ≤ k) → k < n
-        less_still (inl lt) = lt
-        less_still (inr ge) = absurd (eqb-false k n other (omega (arith, ge, less)))
+functions_ask Named fs named n within formed k less = (each_function fs (λ k steps. k < length fs → AsksOnly Named steps)
+    (λ i w before lies. function_asks Named (code_of fs i) fs i w
+    (λ j lower. before j lower (omega (arith, lower, lies))) (function_named Named fs i named lies)) n within formed k
+    less) (omega (arith, less, within))
 
 pub task_asks : (Named : Use → Type 0) (u : PlainUnit) → is_formed u ≡ true → All Named (uses_of u)
     → AsksOnly Named (trail (emitted u))
 task_asks Named u formed named =
-    let a = and_parts (nat_le (length u.functions) 512) _ formed in
-    let b = and_parts (functions_formed u.functions (length u.functions)) _ a.1 in
-    let c = and_parts (entry_formed u) _ b.1 in
-    let d = and_parts (nat_lt u.entry (length u.functions)) ((slice_index_or u.functions u.entry no_function).parameters
-    == 0) c.0 in
+    let p = unit_parts u formed in
     subst (λ n. AsksOnly Named (trails (codes u.functions) n u.entry)) (sym (codes_length u.functions))
-    (functions_ask Named u.functions (are_named Named (uses_of u) named) (length u.functions) (omega arith) b.0 u.entry
-    (ltb-true u.entry (length u.functions) d.0))
+    (functions_ask Named u.functions (are_named Named (uses_of u) named) (length u.functions) (omega arith) p.functions u.entry
+    p.entry)

@@ -22,7 +22,7 @@ use Rattle.sp_emit.specs.Truths.{cmp_of, both_of, bits_of, func_in, sought_in, i
 use Rattle.sp_tree.specs.MaskTests.{is_one}
 use Rattle.sp_emit.specs.declared.registers.TheConstants.{FIRST, TEST, SECOND}
 use Rattle.sp_emit.specs.declared.stands.Homes.{Homes}
-use Rattle.sp_emit.proofs.Calm.{is_passing}
+use Rattle.sp_emit.proofs.Effects.{is_passing}
 use Rattle.sp_emit.proofs.Held.{short_below}
 use Rattle.sp_emit.specs.declared.stands.Flags.{Flags}
 

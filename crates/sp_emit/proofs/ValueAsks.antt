@@ -1,7 +1,7 @@
 -- What the code of values asks for: the variables and elements that it reads.
-use Rattle.std.proofs.Common.{◌≡◌, ℕ, suc, ◌+◌, ◌*◌, ◌%◌, ◌^◌, ◌<◌, ◌≤◌, inl, inr, Bool, true, false, List, [], ◌∷◌, ◌++◌, append-nil, nat_lt, refl, sym, ap, ◌∙◌, subst, arith}
+use Rattle.std.proofs.Common.{true≢false, ◌≡◌, ℕ, suc, ◌+◌, ◌*◌, ◌%◌, ◌^◌, ◌<◌, ◌≤◌, inl, inr, Bool, true, false, List, [], ◌∷◌, ◌++◌, append-nil, nat_lt, refl, sym, ap, ◌∙◌, subst, arith}
 use Rattle.std.specs.Prelude.{nat_le}
-use Rattle.std.specs.List.{All, list_all}
+use Rattle.std.specs.List.{All}
 use Rattle.std.proofs.lemmas.Bool.{and_parts, leb-true, ltb-true}
 use Rattle.std.proofs.lemmas.List.Elements.{All-nil, All-cons}
 use Rattle.patmos_instr.specs.Bundles.{PlainBundle}
@@ -36,15 +36,15 @@ use Rattle.sp_emit.specs.Instructions.{always, set_number, load_from, combine}
 use Rattle.sp_emit.specs.Places.{flag_of}
 use Rattle.sp_emit.specs.Truths.{flag_code, bit_sought}
 use Rattle.sp_emit.specs.declared.registers.TheConstants.{FIRST, OVERRUN, SPARE}
-use Rattle.sp_emit.proofs.Accessing.{asks_append, asks_nothing, is_near, near_asks, near_parts, nearby, is_kept, all_near}
+use Rattle.sp_emit.proofs.Accessing.{asks_append, asks_nothing, near_asks, near_parts, nearby}
+use Rattle.sp_emit.proofs.Effects.{AreIn, none}
 use Rattle.sp_emit.proofs.Footprints.{number_in, word_in, unary_in, held_in, tests_in, bit_in, cell_in, element_in}
-use Rattle.sp_emit.proofs.Walks.{binary_is, each_walk}
+use Rattle.sp_emit.proofs.Walks.{binary_is, in_walk}
 use Rattle.sp_emit.proofs.Cells.{few_words, first_small}
 use Rattle.sp_emit.proofs.Elements.{Reached, looked_up, reaches, looks_up, looks_at_0}
-use Rattle.sp_emit.proofs.Formed.{binary_formed}
 use Rattle.sp_emit.proofs.Leaving.{did_set_number}
 use Rattle.sp_emit.proofs.Needs.{some_need, array_named, index_named, second_fits, first_fits}
-use Rattle.sp_emit.proofs.Portless.{portless_start, portless, all_portless}
+use Rattle.sp_emit.proofs.Portless.{unwritten, unwritten_start}
 use Rattle.sp_emit.proofs.Once.{with_written, did_load, whole_written, got}
 use Rattle.sp_emit.proofs.TruthCode.{TruthParts, flag_is}
 use Rattle.sp_emit.specs.declared.stands.Homes.{Homes}
@@ -103,8 +103,8 @@ cell_asks Named c rd some few formed named = record {
       ∙ ap (λ a. m.asked ++ word_load (cell_space c.region) rd a ∷ [])
       (let e : (at + 0 * 4) % 2 ^ 32 ≡ at = omega (arith, small) in e))
       (variable_read Named c.region c.word rd formed named);
-  starts = λ from m whole words. portless_start from (cell_code c rd) m (all_portless (cell_code c rd)
-      (cell_in portless c rd refl refl));
+  starts = λ from m whole words. unwritten_start from unwritten refl (cell_code c rd) m
+      (cell_in unwritten c rd refl refl);
 }
   where
     at : ℕ
@@ -173,8 +173,7 @@ element_asks Named a rd ra some few low formed named = record {
   cached = [];
   asks = asks;
   starts = λ from m whole words.
-      portless_start from (element_code a rd ra) m
-      (all_portless (element_code a rd ra) (element_in portless a rd ra refl refl));
+      unwritten_start from unwritten refl (element_code a rd ra) m (element_in unwritten a rd ra refl refl);
 }
   where
     within : a.first + a.length ≤ room_in a.region all_rooms
@@ -233,19 +232,17 @@ asks_lone {Named} f bs a = subst (AsksOnly Named) (sym (append-nil (all_done bs)
 
 operator_asks : (Named : Use → Type 0) (f : ℕ → List Step) (op : SpBinary) (rd ra rb : ℕ)
     → AsksOnly Named (parts_trail f (binary_code op rd ra rb))
-operator_asks Named f op rd ra rb = near_parts Named f 0 (λ k less. absurd (omega (arith, less)))
-    (binary_code op rd ra rb) (binary_formed 0 op rd ra rb) (binary_is (each_walk nearby refl is_near is_kept)
-    op rd ra rb refl)
+operator_asks Named f op rd ra rb = near_parts Named f none (λ k may. absurd (true≢false (sym may)))
+    (binary_code op rd ra rb) (binary_is (in_walk nearby refl none) op rd ra rb refl)
 
 value_asks : (homes : Homes) (Named : Use → Type 0) (f : ℕ → List Step) (e : PlainSp) (rd to : ℕ) → 1 ≤ to
     → to < OVERRUN → ExprFits e rd → AreNamed Named (expr_uses e)
     → AsksOnly Named (parts_trail f (value_code homes e rd to))
 value_asks homes Named f (constant n) rd to some few fits named =
-    asks_lone f (set_number to n ∷ []) (near_asks Named (set_number to n ∷ [])
-    (all_near (set_number to n ∷ []) (rw (number_in nearby to n refl) refl)))
+    asks_lone f (set_number to n ∷ []) (near_asks Named (set_number to n ∷ []) (rw (number_in nearby to n refl) refl))
 value_asks homes Named f (frame_word slot) rd to some few fits named =
     let bs = word_code (flag_of homes.flags slot) homes.first to slot in
-    asks_lone f bs (near_asks Named bs (all_near bs (word_in nearby homes to slot refl (λ out. refl))))
+    asks_lone f bs (near_asks Named bs (word_in nearby homes to slot refl (λ out. refl)))
 value_asks homes Named f (cell_word cell) rd to some few fits named =
     asks_lone f (cell_code cell to) (cell_asks Named cell to some (omega (arith, few)) fits.names named.0)
 value_asks homes Named f (array_word array index) rd to some few fits named =
@@ -254,7 +251,7 @@ value_asks homes Named f (array_word array index) rd to some few fits named =
     (array_named array index fits) named.0)
 value_asks homes Named f (before_one op of) rd to some few fits named =
     asks_lone f (unary_code op to (value_at homes of rd)) (near_asks Named (unary_code op to (value_at homes of rd))
-    (all_near (unary_code op to (value_at homes of rd)) (unary_in nearby op to (value_at homes of rd) refl)))
+    (unary_in nearby op to (value_at homes of rd) refl))
 value_asks homes Named f (between_two op a b) rd to some few fits named =
     one_of (λ ps. AsksOnly Named (parts_trail f ps)) (is_immediate op b) (nat_lt (need a) (need b))
     (one (straight (held_code op to (value_at homes a rd) (number_of b))))
@@ -262,8 +259,7 @@ value_asks homes Named f (between_two op a b) rd to some few fits named =
     (binary_code op to (value_at homes a rd) (value_at homes b (rd + 1)))
     (asks_lone f (held_code op to (value_at homes a rd) (number_of b))
     (near_asks Named (held_code op to (value_at homes a rd) (number_of b))
-    (all_near (held_code op to (value_at homes a rd) (number_of b))
-    (held_in nearby op to (value_at homes a rd) (number_of b) refl))))
+    (held_in nearby op to (value_at homes a rd) (number_of b) refl)))
     (λ less. operator_asks Named f op to (value_at homes a (rd + 1)) (value_at homes b rd))
     (λ more. operator_asks Named f op to (value_at homes a rd) (value_at homes b (rd + 1)))
 
@@ -309,7 +305,7 @@ pub flag_asks : (homes : Homes) (Named : Use → Type 0) (f : ℕ → List Step)
 flag_asks homes Named f p e fits named =
     flag_is parts p (λ func a b. bundles (combine func p a b ∷ []) refl) e (fits, named)
   where
-    bundles : (bs : List PlainBundle) → list_all is_near bs ≡ true → AsksOnly Named (parts_trail f (one (straight bs)))
+    bundles : (bs : List PlainBundle) → AreIn nearby bs → AsksOnly Named (parts_trail f (one (straight bs)))
     bundles bs all = asks_lone f bs (near_asks Named bs all)
 
     parts : TruthParts (λ ps. AsksOnly Named (parts_trail f ps)) homes (λ e. ExprFits e FIRST
@@ -320,7 +316,6 @@ flag_asks homes Named f p e fits named =
       first = λ op a b h. (first_fits op a b h.0, named_left Named (expr_uses a) (expr_uses b) h.1);
       second = λ op a b h. (second_fits op a b h.0, named_right Named (expr_uses a) (expr_uses b) h.1);
       operands = λ e h. operands_ask homes Named f e FIRST (omega arith) h.0 h.1;
-      tests = λ bs tests. bundles bs (all_near bs (tests_in nearby bs tests));
-      bits = λ slot h. bundles (bit_sought homes.first slot) (all_near (bit_sought homes.first slot)
-          (bit_in nearby homes.first slot (λ out. refl)));
+      tests = λ bs tests. bundles bs (tests_in nearby bs tests);
+      bits = λ slot h. bundles (bit_sought homes.first slot) (bit_in nearby homes.first slot (λ out. refl));
     }

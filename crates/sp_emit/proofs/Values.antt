@@ -21,9 +21,10 @@ use Rattle.sp_emit.specs.Expressions.{unary_code, binary_code, held_code, elemen
 use Rattle.sp_emit.specs.Fits.{ExprFits}
 use Rattle.sp_emit.specs.Holding.{held, so, Keeps}
 use Rattle.sp_emit.specs.Means.{HasWords, Shows, IsReady}
-use Rattle.sp_emit.proofs.Calm.{parts_calm, calm_run, parts_trail_calm, keeps_all}
-use Rattle.sp_emit.proofs.CalmCode.{joined_calm, own_free, calm, calm_walk}
-use Rattle.sp_emit.proofs.Walks.{Room, value_is, operands_is}
+use Rattle.sp_shape.proofs.Along.{have_joined}
+use Rattle.sp_emit.proofs.Effects.{is_in, none}
+use Rattle.sp_emit.proofs.Calm.{calm, calm_parts, IsCalm, keeps_all, own_free}
+use Rattle.sp_emit.proofs.Walks.{Room, value_is, operands_is, in_walk}
 use Rattle.sp_emit.proofs.Elements.{element_leaves}
 use Rattle.sp_emit.proofs.Leaving.{number_leaves, truth_leaves, cell_leaves, unary_leaves}
 use Rattle.sp_emit.proofs.Held.{held_leaves}
@@ -54,10 +55,9 @@ before homes e free = omega (arith, free, some_need e)
 
 -- what gives the value is calm from the register on to which that goes
 pub value_calm : (homes : Homes) (low top : ℕ) (e : PlainSp) (rd to : ℕ) → low ≤ to → to < OVERRUN → to < top
-    → parts_calm low top (value_code homes e rd to) ≡ true
+    → IsCalm low top (value_code homes e rd to)
 value_calm homes low top e rd to le few within =
-    let less : low ≤ SPARE = omega (arith, le, few) in
-    value_is (calm_walk low top less) refl homes (λ e rd. Unit {0}) (λ slot rd h out. refl) e rd to
+    value_is (in_walk (calm low top) refl none) refl homes (λ e rd. Unit {0}) (λ slot rd h out. refl) e rd to
     tt (own_free low top to le few within)
 
 above_handed : (low : ℕ) → Handed (λ e rd. low ≤ rd)
@@ -72,42 +72,38 @@ above_handed low = record {
 
 -- the operands are calm from the first register on
 pub operands_calm : (homes : Homes) (low : ℕ) (e : PlainSp) (rd : ℕ) → low ≤ rd → ExprFits e rd
-    → rd + need e ≤ homes.first → parts_calm low homes.first (operands_code homes e rd) ≡ true
+    → rd + need e ≤ homes.first → IsCalm low homes.first (operands_code homes e rd)
 operands_calm homes low e rd le fits free =
-    let less : low ≤ SPARE = omega (arith, le, left e fits) in
-    let room : Room (calm low homes.first less) homes (λ e rd. (low ≤ rd)
+    let room : Room (calm low homes.first) homes (λ e rd. (low ≤ rd)
     × (ExprFits e rd × (rd + need e ≤ homes.first))) = record {
       handed = both_handed (above_handed low) (both_handed fits_handed (needs_handed homes.first));
       sets = λ e rd h.
           own_free low homes.first rd h.0 (omega (arith, left e h.1.0)) (before homes e h.1.1);
       reads = λ slot rd h out. refl;
     } in
-    operands_is (calm_walk low homes.first less) refl room e rd (le, (fits, free))
+    operands_is (in_walk (calm low homes.first) refl none) refl room e rd (le, (fits, free))
 
 operands_keep : (homes : Homes) (from : Sources) (f : ℕ → List Step) (e : PlainSp) (rd : ℕ) (m : Run) → ExprFits e rd
     → rd + need e ≤ homes.first → IsWhole m
     → Keeps rd homes.first m (run from (parts_trail f (operands_code homes e rd)) m)
 operands_keep homes from f e rd m fits free whole =
-    calm_run from rd homes.first (parts_trail f (operands_code homes e rd)) m (omega (arith, left e fits)) whole
-    (parts_trail_calm f rd homes.first (operands_code homes e rd) (operands_calm homes rd e rd
-    (omega arith) fits free))
+    calm_parts from rd homes.first f (operands_code homes e rd) m (omega (arith, left e fits)) whole (operands_calm homes rd e rd
+    (omega arith) fits free)
 
 -- what gives the value keeps all but its register and spare ones
 pub value_keeps : (homes : Homes) (from : Sources) (f : ℕ → List Step) (e : PlainSp) (rd to : ℕ) (m : Run)
     → to < OVERRUN → IsWhole m → Keeps to (to + 1) m (run from (parts_trail f (value_code homes e rd to)) m)
 value_keeps homes from f e rd to m few whole =
-    calm_run from to (to + 1) (parts_trail f (value_code homes e rd to)) m (omega (arith, few)) whole
-    (parts_trail_calm f to (to + 1) (value_code homes e rd to) (value_calm homes to (to + 1) e rd to
-    (omega arith) few (omega arith)))
+    calm_parts from to (to + 1) f (value_code homes e rd to) m (omega (arith, few)) whole (value_calm homes to (to + 1) e rd to
+    (omega arith) few (omega arith))
 
 pub expr_keeps : (homes : Homes) (from : Sources) (f : ℕ → List Step) (e : PlainSp) (rd : ℕ) (m : Run) → ExprFits e rd
     → rd + need e ≤ homes.first → IsWhole m → Keeps rd homes.first m (run from (parts_trail f (expr_code homes e rd)) m)
 expr_keeps homes from f e rd m fits free whole =
     let code = value_calm homes rd homes.first e rd rd (omega arith) (omega (arith, left e fits))
     (before homes e free) in
-    calm_run from rd homes.first (parts_trail f (expr_code homes e rd)) m (omega (arith, left e fits)) whole
-    (parts_trail_calm f rd homes.first (expr_code homes e rd) (joined_calm rd homes.first (operands_code homes e rd)
-    (value_code homes e rd rd) (operands_calm homes rd e rd (omega arith) fits free) code))
+    calm_parts from rd homes.first f (expr_code homes e rd) m (omega (arith, left e fits)) whole (have_joined (is_in (calm rd homes.first)) none (operands_code homes e rd)
+    (value_code homes e rd rd) (operands_calm homes rd e rd (omega arith) fits free) code)
 
 -- what a run shows it still shows
 pub shows_still : {homes : Homes} {slots rd : ℕ} {s : State} {m t : Run} → Keeps rd homes.first m t

@@ -2,10 +2,9 @@
 -- expressions and statements.
 use Rattle.std.proofs.Common.{Bool, ◌≡◌, ℕ, ◌+◌, ◌-◌, ◌<◌, ◌≤◌, ◌==◌, true, false, ◌&&◌, List, [], ◌∷◌, ◌++◌, Option, None, Some, length, slice_index_or, refl, subst, min, arith}
 use Rattle.std.specs.Prelude.{nat_lt, nat_le}
-use Rattle.std.specs.List.{list_all}
-use Rattle.std.proofs.lemmas.Bool.{and_parts, ltb-true, leb-true, eqb-true}
+use Rattle.std.proofs.lemmas.Bool.{and_parts, and_from, ltb-true, leb-true, eqb-true}
 use Rattle.patmos_instr.specs.Bundles.{PlainBundle}
-use Rattle.patmos_instr.specs.declared.functions.StackFunc.TheVariants.{Sens}
+use Rattle.patmos_instr.specs.declared.functions.StackFunc.TheVariants.{Sres, Sens, Sfree}
 use Rattle.patmos_instr.specs.declared.guards.Guard.{Guard}
 use Rattle.sp_tree.specs.Formed.{names_words, array_formed, target_formed, expr_formed, callee_formed, args_formed, result_formed, send_formed, stmt_formed, stmts_formed, functions_formed, stmt_levels, slots_of}
 use Rattle.sp_tree.specs.Need.{need}
@@ -14,25 +13,27 @@ use Rattle.sp_tree.specs.Statements.{PlainSpTarget, to_slot, to_cell, to_array, 
 use Rattle.sp_tree.specs.declared.operators.SpBinary.{SpBinary}
 use Rattle.sp_tree.specs.declared.operators.SpBinary.TheVariants as binary
 use Rattle.sp_tree.proofs.Forms.{few_arguments}
-use Rattle.sp_shape.specs.Bundles.{parts_all}
 use Rattle.sp_shape.specs.Parts.{straight, PlainParts, no_part, one, joined}
-use Rattle.sp_shape.proofs.Lists.{all_append, all_weaker}
+use Rattle.sp_shape.proofs.Along.{parts_have, have_joined, have_lone, Composes, joined_has, lone_has, repeated_has}
+use Rattle.sp_shape.specs.Trail.{Step, all_done, parts_trail}
+use Rattle.sp_shape.proofs.Lists.{all_append}
 use Rattle.sp_emit.specs.Division.{digit_tail, operands, without_signs, highest_bit, digits, around, unsigned_division, signed_division, unsigned_quotient_to, unsigned_rest_to, signed_quotient_to, signed_rest_to}
 use Rattle.sp_emit.specs.Expressions.{binary_code, held_code, unary_code, cell_code, element_code, word_code, number_of, value_at, is_immediate, value_code, operands_code, expr_to, expr_code}
-use Rattle.sp_emit.specs.Instructions.{always, where_so, under, set_number, combine, stack_op}
+use Rattle.sp_emit.specs.Instructions.{always, where_so, under, set_number, combine}
 use Rattle.sp_emit.specs.Places.{flag_of, in_register, stack_word, fetched_at, set_word, mask_test, told_at, args_least, target_least, stmt_least}
-use Rattle.sp_emit.specs.Statements.{call_tail, slot_write, cell_write, element_write, target_write, write_code, args_code, mask_handed, result_write, call_code, send_code, overrun_code, slot_set, mask_code, iterations_begin, iterations_tail, stmt_code, stmts_code}
+use Rattle.sp_emit.specs.Statements.{slot_write, cell_write, element_write, target_write, write_code, args_code, mask_handed, result_write, call_code, send_code, overrun_code, slot_set, mask_code, iterations_begin, iterations_tail, stmt_code, stmts_code}
 use Rattle.sp_emit.specs.Truths.{bit_sought}
 use Rattle.sp_emit.specs.declared.registers.TheConstants.{RESULT, MASK, FIRST, TEST, SECOND, SPARE, OVERRUN, FLAGS}
 use Rattle.sp_emit.specs.declared.stands.Homes.{Homes}
-use Rattle.sp_emit.proofs.Footprints.{Footprint, test, second, is_in, AreIn, everything, tests_in, alu_in, unary_in, held_in, operands_in, signs_in, highest_in, digits_in, unsigned_quotient_in, unsigned_rest_in, signed_quotient_in, signed_rest_in, number_in, seek_in, match_in, set_in, word_in, bit_in, begin_in, tail_in, handed_in, call_tail_in, overrun_in, cell_in, element_in, cell_write_in, element_write_in, send_in}
+use Rattle.sp_emit.proofs.Effects.{Footprint, is_in, AreIn, IsWide}
+use Rattle.sp_emit.proofs.Footprints.{test, second, tests_in, alu_in, unary_in, held_in, operands_in, signs_in, highest_in, digits_in, unsigned_quotient_in, unsigned_rest_in, signed_quotient_in, signed_rest_in, number_in, seek_in, match_in, set_in, word_in, bit_in, begin_in, tail_in, handed_in, call_tail_in, overrun_in, cell_in, element_in, cell_write_in, element_write_in, send_in}
 use Rattle.sp_emit.proofs.Lasts.{write_is}
 use Rattle.sp_emit.proofs.Needs.{some_need}
 use Rattle.sp_emit.proofs.Operands.{Handed, names_handed, needs_handed, both_handed, one_of, operands_are, mask_is}
-use Rattle.sp_emit.proofs.EachBundle.{each_joined, each_lone}
 use Rattle.sp_emit.proofs.TruthCode.{TruthParts, flag_is}
 use Rattle.sp_emit.specs.Flags.{begun_body}
-use Rattle.sp_emit.specs.Functions.{first_counter, frame_words, body_code}
+use Rattle.sp_emit.specs.Functions.{first_counter, frame_words, body_code, function_rest, function_code}
+use Rattle.sp_emit.proofs.Around.{begins_in, ends_in, wide_begins, wide_ends}
 use Rattle.sp_emit.proofs.Windows.{IsHomed, ArePlaced, InWindow, body_placed}
 use Rattle.sp_emit.proofs.WordPlaces.{fetched_is}
 
@@ -149,21 +150,16 @@ pub record Within (F : Footprint) (homes : Homes) (most : ℕ) : Type 0 where
       → F.stores (stack_word homes.first slot) ≡ true
 
 -- where no register, and no word of the stack is left out
-pub wide_within : (F : Footprint) → ((r : ℕ) → F.sets r ≡ true) → ((word : ℕ) → F.reads word ≡ true)
-    → ((word : ℕ) → F.stores word ≡ true) → (homes : Homes) (most : ℕ) → ((slot p : ℕ) → flag_of homes.flags slot
+pub wide_within : {F : Footprint} → IsWide F → (homes : Homes) (most : ℕ) → ((slot p : ℕ) → flag_of homes.flags slot
     ≡ Some p → F.tells p ≡ true) → Within F homes most
-wide_within F sets reads stores homes most named = record {
-  window = λ r lt. sets r;
-  flag = sets OVERRUN;
+wide_within wide homes most named = record {
+  window = λ r lt. wide.sets r;
+  flag = wide.sets OVERRUN;
   named = named;
-  here = λ slot le. sets (homes.first + slot);
-  reads = λ slot le out. reads (stack_word homes.first slot);
-  stores = λ slot le out. stores (stack_word homes.first slot);
+  here = λ slot le. wide.sets (homes.first + slot);
+  reads = λ slot le out. wide.reads (stack_word homes.first slot);
+  stores = λ slot le out. wide.stores (stack_word homes.first slot);
 }
-
-pub everywhere : (homes : Homes) (most : ℕ) → Within everything homes most
-everywhere homes most =
-    wide_within everything (λ r. refl) (λ word. refl) (λ word. refl) homes most (λ slot p is. refl)
 
 -- an expression names words of the frame, and has registers before the window
 abbrev pub Fits : Homes → ℕ → PlainSp → ℕ → Type 0
@@ -371,7 +367,7 @@ body_is W L S {homes = homes} {f = f} w x F flows =
     stmts_are W L S w.homed x (omega (arith, p.levels)) F (first_counter f) (begun_body homes.flags f) (omega arith) p
     flows
 
--- ---- what holds of each bundle
+-- ---- the bundles of loops and calls
 
 counter_sets : {F : Footprint} {homes : Homes} {most : ℕ} → Within F homes most → (counter : ℕ) → counter ≤ most
     → F.sets (fetched_at homes.first counter) ≡ true
@@ -405,30 +401,73 @@ results {F} {homes} x slots mask (Some slot) le lt formed =
           (x.stores slot (omega (arith, le, named))),
     ) refl
 
-module _ (F : Footprint) (branches : F.branches ≡ true) (holds : PlainBundle → Bool)
-    (so : (b : PlainBundle) → is_in F b ≡ true → holds b ≡ true) where
-  all_so : (bs : List PlainBundle) → AreIn F bs → list_all holds bs ≡ true
-  all_so bs = all_weaker (is_in F) holds so bs
+-- ---- code that keeps to a footprint, and calls functions of a class alone
 
-  pub each_walk : Walk (λ ps. parts_all holds ps ≡ true) F
-  each_walk = walk_of F refl (each_joined holds) (λ bs all. each_lone holds bs (all_so bs all))
-      (rw (all_so digit_tail (digits_in F branches)) refl)
+abbrev pub CodeIn : Footprint → (ℕ → Bool) → PlainParts → Type 0
+CodeIn F may ps = parts_have (is_in F) may ps ≡ true
 
-  pub each_flows : (tops : List ℕ) {homes : Homes} (fs : List PlainFunction) (number slots frame : ℕ) {most : ℕ}
-      → Within F homes most → slots ≤ most + 1 → FIRST ≤ homes.first → F.calls ≡ true → holds (stack_op Sens frame)
-      ≡ true
-      → Flows (λ ps. parts_all holds ps ≡ true) tops homes fs number slots frame most (λ k. Unit {0})
-      (λ count. Unit {0})
-  each_flows tops {homes} fs number slots frame x le own calling brings = record {
-    called = λ mask k result lt earlier top formed may. rw (
-      all_so (mask_handed homes mask) (hands x mask (omega (arith, le, lt)) own),
-      all_so call_tail (call_tail_in F calling),
-      brings,
-      all_so (result_write homes mask result) (results x slots mask result le lt formed),
-    ) refl;
-    repeated = λ count counter body some one within placed may all. rw (
-      all_so (iterations_begin homes.first counter count) (begins x counter count within),
-      all,
-      all_so (iterations_tail homes.first counter) (tails x counter within branches),
-    ) refl;
-  }
+pub in_walk : (F : Footprint) → F.branches ≡ true → (may : ℕ → Bool) → Walk (CodeIn F may) F
+in_walk F branches may = walk_of F refl (have_joined (is_in F) may) (have_lone (is_in F) may)
+    (rw (digits_in F branches) refl)
+
+-- what holds of bundles within it, and of steps one after another
+pub trail_walk : (P : List Step → Type 0) → Composes P → (F : Footprint) → F.branches ≡ true
+    → ((bs : List PlainBundle) → AreIn F bs → P (all_done bs)) → (f : ℕ → List Step)
+    → Walk (λ ps. P (parts_trail f ps)) F
+trail_walk P c F branches done f = walk_of F c.none (joined_has P c f) (λ bs all. lone_has P f bs (done bs all))
+    (repeated_has P c f 8 no_part digit_tail c.none (done digit_tail (digits_in F branches)))
+
+-- a footprint in which functions may be called, and loops be repeated
+pub record HasFlows (F : Footprint) : Type 0 where
+  pub branches : F.branches ≡ true
+  pub calls : F.calls ≡ true
+  pub brings : (count : ℕ) → F.stacks Sens count ≡ true
+
+pub in_flows : {F : Footprint} → HasFlows F → (may : ℕ → Bool) (tops : List ℕ) {homes : Homes} (fs : List PlainFunction)
+    (number slots frame : ℕ) {most : ℕ} {Calls : ℕ → Type 0} → Within F homes most → slots ≤ most + 1
+    → FIRST ≤ homes.first → ((k : ℕ) → k < number → slice_index_or tops k 0 ≤ homes.first → Calls k → may k ≡ true)
+    → Flows (CodeIn F may) tops homes fs number slots frame most Calls (λ count. Unit {0})
+in_flows {F} has may tops {homes} fs number slots frame x le own allowed = record {
+  called = λ mask k result lt earlier top formed called. rw (
+    hands x mask (omega (arith, le, lt)) own,
+    allowed k earlier top called,
+    call_tail_in F has.calls,
+    has.brings frame,
+    results x slots mask result le lt formed,
+  ) refl;
+  repeated = λ count counter body some one within placed may all.
+      rw (begins x counter count within, all, tails x counter within has.branches) refl;
+}
+
+pub body_in : {F : Footprint} → HasFlows F → F.loads ≡ true → F.writes ≡ true → (may : ℕ → Bool) {Calls : ℕ → Type 0}
+    {tops : List ℕ} {homes : Homes} {fs : List PlainFunction} {number : ℕ} {f : PlainFunction}
+    → InWindow homes tops fs number f → Within F homes (first_counter f)
+    → ((k : ℕ) → k < number → slice_index_or tops k 0 ≤ homes.first → Calls k → may k ≡ true)
+    → StmtsFlow Calls (λ count. Unit {0}) (begun_body homes.flags f) → CodeIn F may (body_code homes f)
+body_in {F} has L S may {tops = tops} {homes} {fs} {number} {f} w x allowed flows =
+    body_is (in_walk F has.branches may) L S w x (in_flows has may tops fs number (slots_of f)
+    (frame_words homes.first f) x (omega (arith, (body_placed w).levels)) w.homed.own allowed) flows
+
+-- a footprint that leaves out no register, no word of the stack and no other memory
+pub record IsFull (F : Footprint) : Type 0 where
+  pub wide : IsWide F
+  pub flows : HasFlows F
+  pub loads : F.loads ≡ true
+  pub writes : F.writes ≡ true
+  pub specials : F.specials ≡ true
+  pub returns : F.returns ≡ true
+
+pub function_in : {F : Footprint} → IsFull F → (may : ℕ → Bool) {Calls : ℕ → Type 0} {tops : List ℕ} {homes : Homes}
+    {fs : List PlainFunction} {number : ℕ} {f : PlainFunction} → InWindow homes tops fs number f
+    → ((slot p : ℕ) → flag_of homes.flags slot ≡ Some p → F.tells p ≡ true)
+    → F.stacks Sres (frame_words homes.first f) ≡ true → F.stacks Sfree (frame_words homes.first f) ≡ true
+    → ((k : ℕ) → k < number → slice_index_or tops k 0 ≤ homes.first → Calls k → may k ≡ true)
+    → StmtsFlow Calls (λ count. Unit {0}) (begun_body homes.flags f) → CodeIn F may (function_code homes f)
+function_in {F} full may {homes = homes} {f = f} w named takes frees allowed flows =
+    let begin = begins_in (wide_begins full.wide homes f named) w.parts takes in
+    let body = body_in full.flows full.loads full.writes may w (wide_within full.wide homes (first_counter f) named)
+    allowed flows in
+    let end = ends_in (wide_ends full.wide full.specials homes.first f) frees in
+    let returns = full.returns in
+    and_from _ _ begin (have_joined (is_in F) may (body_code homes f) (function_rest homes.first f) body
+    (rw (end, returns, F.zero) refl))

@@ -1,24 +1,20 @@
 -- The code of statements stays within its frame, where that of the functions that are called stays within theirs.
-use Rattle.std.proofs.Common.{Bool, ◌≡◌, ℕ, zero, suc, ◌+◌, ◌-◌, ◌<◌, ◌≤◌, true, false, Option, List, [], ◌++◌, nat_lt, refl, sym, subst, arith}
+use Rattle.std.proofs.Common.{◌≡◌, ℕ, ◌+◌, ◌-◌, ◌<◌, ◌≤◌, true, false, Option, List, nat_lt, refl, sym, subst, arith}
 use Rattle.std.proofs.lemmas.Bool.{lt-ltb}
-use Rattle.patmos_instr.specs.Bundles.{PlainBundle}
 use Rattle.patmos_instr.specs.declared.functions.StackFunc.TheVariants.{Sens}
 use Rattle.patmos_sem.specs.declared.effects.Effect.TheVariants as effect
 use Rattle.sp_tree.specs.Formed.{result_formed, slots_of}
 use Rattle.sp_tree.specs.Statements.{PlainStmt, calls, iterations, PlainStmts, no_stmt, stmt, PlainFunction}
-use Rattle.sp_shape.proofs.Whole.{begun_whole, run_append}
-use Rattle.sp_shape.specs.Parts.{straight, repeats, PlainParts, no_part, one, joined}
+use Rattle.sp_shape.proofs.Whole.{begun_whole}
+use Rattle.sp_shape.specs.Parts.{straight, repeats, one}
 use Rattle.sp_shape.specs.Run.{Run, IsWhole, Sources, once, run, begun}
-use Rattle.sp_shape.specs.Trail.{Step, all_done, copies, parts_trail}
-use Rattle.patmos_instr.specs.declared.guards.Guard.{Guard}
-use Rattle.sp_emit.specs.Places.{in_register, read_word, set_word, stack_word}
-use Rattle.sp_emit.proofs.Footprints.{Footprint, is_in, AreIn, everything, digits_in, read_in, set_in}
-use Rattle.sp_shape.proofs.Lists.{all_weaker}
-use Rattle.sp_emit.proofs.Walks.{Walk, walk_of, Within, Flows, StmtFlows, StmtsFlow, body_is, begins, tails, hands, results}
+use Rattle.sp_shape.specs.Trail.{Step, all_done, parts_trail}
+use Rattle.sp_emit.specs.Places.{in_register, stack_word}
+use Rattle.sp_emit.proofs.Walks.{Within, Flows, StmtFlows, StmtsFlow, trail_walk, body_is, begins, tails, hands, results}
+use Rattle.sp_shape.proofs.Along.{repeated_has}
 use Rattle.sp_emit.proofs.Windows.{InWindow, body_placed}
 use Rattle.sp_emit.proofs.WordPlaces.{stack_within}
 use Rattle.sp_emit.specs.Chains.{stmt_chain, stmts_chain}
-use Rattle.sp_emit.specs.Division.{digit_tail}
 use Rattle.sp_emit.specs.Flags.{begun_body}
 use Rattle.sp_emit.specs.Functions.{frame_words, first_counter, body_code}
 use Rattle.sp_emit.specs.Instructions.{stack_op}
@@ -26,25 +22,10 @@ use Rattle.sp_emit.specs.Statements.{mask_handed, call_tail, result_write, call_
 use Rattle.sp_emit.specs.declared.registers.TheConstants.{FIRST}
 use Rattle.sp_emit.proofs.Arguments.{did_stack}
 use Rattle.sp_emit.proofs.Calling.{call_run}
-use Rattle.sp_emit.proofs.Pointing.{Points, points_then, points_none, points_one, is_inside, Framed, Stays, stays_then, stays_all, inside_done}
-use Rattle.sp_emit.proofs.Values.{run_joined, run_lone}
+use Rattle.sp_emit.proofs.Pointing.{Points, points_then, points_none, points_one, inside, Framed, Stays, stays_then, StaysFrom, stays_compose, inside_done}
 use Rattle.sp_emit.specs.declared.stands.Homes.{Homes}
 
--- ---- bundles that reach the first words of the frame alone
-
-abbrev below : ℕ → ℕ → Bool
-below frame word = nat_lt word frame
-
-abbrev inside : ℕ → Footprint
-inside frame = record everything { reads = below frame; stores = below frame }
-
-is_kept : (frame : ℕ) (b : PlainBundle) → is_in (inside frame) b ≡ true → is_inside frame b ≡ true
-is_kept frame b within = grind (arith, within)
-
-done_inside : (from : Sources) (frame : ℕ) (bs : List PlainBundle) (m : Run) → Framed frame m → AreIn (inside frame) bs
-    → Stays frame m (run from (all_done bs) m)
-done_inside from frame bs m framed all =
-    inside_done from frame bs m framed (all_weaker (is_in (inside frame)) (is_inside frame) (is_kept frame) bs all)
+-- ---- the words of the frame up to the next counter
 
 inside_within : (homes : Homes) (frame most : ℕ) → stack_word homes.first (most + 1) ≤ frame
     → Within (inside frame) homes most
@@ -60,62 +41,6 @@ inside_within homes frame most within =
       reads = lies;
       stores = lies;
     }
-
-pub read_inside : (frame homes rd slot : ℕ) → (in_register homes slot ≡ false → stack_word homes slot < frame)
-    → is_inside frame (read_word homes rd slot) ≡ true
-read_inside frame homes rd slot within =
-    is_kept frame (read_word homes rd slot) (read_in (inside frame) homes rd slot refl
-    (λ out. lt-ltb (stack_word homes slot) frame (within out)))
-
-pub set_inside : (frame homes : ℕ) (g : Guard) (slot rs : ℕ) → (in_register homes slot ≡ false → stack_word homes slot
-    < frame) → is_inside frame (set_word homes g slot rs) ≡ true
-set_inside frame homes g slot rs within =
-    is_kept frame (set_word homes g slot rs) (set_in (inside frame) homes g slot rs refl
-    (λ out. lt-ltb (stack_word homes slot) frame (within out)))
-
--- ---- code stays within the frame, where so many words are left
-
-abbrev StaysFrom : Sources → ℕ → ℕ → List Step → Type 0
-StaysFrom from frame low steps = (m : Run) → Framed frame m → low ≤ m.st → Stays frame m (run from steps m)
-
-still_left : {frame low : ℕ} {m t : Run} → Stays frame m t → low ≤ m.st → low ≤ t.st
-still_left {frame} {low} {m} {t} stays enough = subst (λ st. low ≤ st) (sym stays.st) enough
-
-joined_stay : (from : Sources) (f : ℕ → List Step) (frame low : ℕ) (xs ys : PlainParts)
-    → StaysFrom from frame low (parts_trail f xs) → StaysFrom from frame low (parts_trail f ys)
-    → StaysFrom from frame low (parts_trail f (joined xs ys))
-joined_stay from f frame low xs ys a b m framed enough =
-    let first = a m framed enough in
-    subst (Stays frame m) (sym (run_joined from f xs ys m))
-    (stays_then first (b (run from (parts_trail f xs) m) first.framed (still_left first enough)))
-
--- iterations
-loop_stays : (from : Sources) (frame low count : ℕ) (iteration : List Step) → StaysFrom from frame low iteration
-    → StaysFrom from frame low (copies count iteration)
-loop_stays from frame low zero iteration one m framed enough = stays_all frame m framed
-loop_stays from frame low (suc count) iteration one m framed enough =
-    let first = one m framed enough in
-    subst (Stays frame m) (sym (run_append from iteration (copies count iteration) m))
-    (stays_then first (loop_stays from frame low count iteration one (run from iteration m) first.framed
-    (still_left first enough)))
-
-repeated_stay : (from : Sources) (f : ℕ → List Step) (frame low count : ℕ) (body : PlainParts) (tail : List PlainBundle)
-    → StaysFrom from frame low (parts_trail f body) → AreIn (inside frame) tail
-    → StaysFrom from frame low (parts_trail f (one (repeats count body tail)))
-repeated_stay from f frame low count body tail stays last m framed enough =
-    let iteration = parts_trail f body ++ all_done tail in
-    subst (Stays frame m) (sym (run_append from (copies count iteration) [] m))
-    (loop_stays from frame low count iteration (λ t framed enough. let b = stays t framed enough in
-    subst (Stays frame t) (sym (run_append from (parts_trail f body) (all_done tail) t)) (stays_then b (done_inside from
-    frame tail (run from (parts_trail f body) t) b.framed last))) m framed enough)
-
-walk : (from : Sources) (f : ℕ → List Step) (frame low : ℕ) → Walk (λ ps. StaysFrom from frame low (parts_trail f ps))
-    (inside frame)
-walk from f frame low = walk_of (inside frame) (λ m framed enough. stays_all frame m framed)
-    (joined_stay from f frame low) (λ bs all m framed enough. subst (Stays frame m) (sym (run_lone from f bs m))
-    (done_inside from frame bs m framed all))
-    (repeated_stay from f frame low 8 no_part digit_tail (λ m framed enough. stays_all frame m framed)
-    (digits_in (inside frame) refl))
 
 -- ---- calls
 
@@ -152,7 +77,7 @@ call_stays : (homes : Homes) (from : Sources) (f : ℕ → List Step) (number fr
     → (m : Run) → Framed frame m → 49152 + g k ≤ m.st
     → Stays frame m (run from (parts_trail f (call_code homes frame mask k result)) m)
 call_stays homes from f number frame slots most mask k g result callees earlier x le own masked is m framed enough =
-    let handed = done_inside from frame (mask_handed homes mask) m framed
+    let handed = inside_done from frame (mask_handed homes mask) m framed
     (hands x mask (omega (arith, le, masked)) own) in
     let n = run from (all_done (mask_handed homes mask)) m in
     let tail = inside_done from frame call_tail n handed.framed refl in
@@ -174,7 +99,7 @@ call_stays homes from f number frame slots most mask k g result callees earlier 
     let again = stays_then begins (framed_again from frame (begun c) t begins.framed back) in
     let u = once from (stack_op Sens frame) t in
     subst (Stays frame m) (sym (call_run homes from f frame mask k result m))
-    (stays_then again (done_inside from frame (result_write homes mask result) u again.framed
+    (stays_then again (inside_done from frame (result_write homes mask result) u again.framed
     (results x slots mask result le masked is)))
 
 -- ---- statements, where so many words are left for each function that they call
@@ -203,19 +128,22 @@ body_stays {homes} {tops} {fs} {number} {f} w from code g callees m framed enoug
     let low = 49152 + stmts_chain g (begun_body homes.flags f) in
     let x = inside_within homes frame most (omega (arith, w.parts.room, w.parts.mask)) in
     let le : slots_of f ≤ most + 1 = omega (arith, (body_placed w).levels) in
+    let c = stays_compose from frame low in
+    let W = trail_walk (StaysFrom from frame low) c (inside frame) refl
+    (λ bs all m left. inside_done from frame bs m left.0 all) code in
     let flows : Flows (λ ps. StaysFrom from frame low (parts_trail code ps)) tops homes fs number
     (slots_of f) frame most
     (λ k. 49152 + g k ≤ low) (λ count. Unit {0}) = record {
-      called = λ mask k result lt earlier window formed room m framed enough. call_stays homes from code number frame
-          (slots_of f) most mask k g result callees earlier x le w.homed.own lt formed m framed
-          (omega (arith, room, enough));
+      called = λ mask k result lt earlier window formed room m left. call_stays homes from code number frame
+          (slots_of f) most mask k g result callees earlier x le w.homed.own lt formed m left.0
+          (omega (arith, room, left.1));
       repeated = λ count counter body some nested within placed may stays.
           let begin = iterations_begin homes.first counter count in
           let inner = stmts_code homes frame (counter - 1) body in
           let tail = iterations_tail homes.first counter in
-          let W = walk from code frame low in
           W.both (one (straight begin)) (one (repeats count inner tail)) (W.lone begin (begins x counter count within))
-          (repeated_stay from code frame low count inner tail stays (tails x counter within refl));
+          (repeated_has (StaysFrom from frame low) c code count inner tail stays
+          (λ m left. inside_done from frame tail m left.0 (tails x counter within refl)));
     } in
-    body_is (walk from code frame low) refl refl w x flows
-    (stmts_leave g low (begun_body homes.flags f) (omega arith)) m framed enough
+    body_is W refl refl w x flows (stmts_leave g low (begun_body homes.flags f) (omega arith)) m
+    (framed, omega (arith, enough))

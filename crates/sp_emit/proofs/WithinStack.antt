@@ -1,74 +1,57 @@
 -- Functions stay within the stack, where the frames on a chain of calls leave room for it.
-use Rattle.std.proofs.Common.{◌≡◌, ℕ, zero, suc, ◌+◌, ◌<◌, ◌≤◌, ◌==◌, ◌⊎◌, inl, inr, Bool, true, false, if◌then◌else◌, Option, None, Some, List, ◌++◌, length, slice_index_or, nat_lt, refl, sym, ap, ◌∙◌, subst, arith}
-use Rattle.std.specs.Prelude.{nat_le}
-use Rattle.std.specs.List.{list_all}
-use Rattle.std.proofs.lemmas.Bool.{cases_lt, and_parts, lt-ltb, ltb-true, eqb-false}
+use Rattle.std.proofs.Common.{◌≡◌, ℕ, zero, suc, ◌+◌, ◌<◌, ◌≤◌, ◌==◌, ◌⊎◌, inl, inr, Bool, true, false, if◌then◌else◌, List, length, slice_index_or, refl, sym, ap, ◌∙◌, subst, arith}
+use Rattle.std.proofs.lemmas.Bool.{cases_lt, and_parts, lt-ltb, eqb-false}
 use Rattle.patmos_instr.specs.declared.functions.StackFunc.TheVariants.{Sres, Sfree}
 use Rattle.patmos_sem.specs.declared.effects.Effect.TheVariants as effect
-use Rattle.sp_tree.specs.Formed.{slots_of, function_formed, functions_formed, entry_formed, is_formed}
+use Rattle.sp_tree.specs.Formed.{slots_of, function_formed, functions_formed, is_formed}
 use Rattle.sp_tree.specs.Statements.{PlainFunction, no_function, PlainUnit}
 use Rattle.sp_shape.specs.Memory.{Memory}
 use Rattle.sp_shape.specs.Parts.{no_part}
 use Rattle.sp_shape.specs.Pointers.{pointers_of, AreWithinStack}
 use Rattle.sp_shape.specs.Run.{Run, IsWhole, Back, Sources, run, at_begin}
 use Rattle.sp_shape.specs.Trail.{Step, all_done, parts_trail, trails, trail}
-use Rattle.sp_shape.proofs.Lists.{all_append}
 use Rattle.sp_emit.specs.Functions.{codes}
-use Rattle.sp_emit.specs.Places.{flag_of, words_cleared}
-use Rattle.sp_emit.proofs.Codes.{codes_at, codes_length, kept_is, brought_is, words_few, words_called, words_outside, code_of}
+use Rattle.sp_emit.specs.Places.{stack_word, words_cleared}
+use Rattle.sp_emit.proofs.Codes.{codes_at, codes_length, words_few, words_called, words_outside, code_of}
 use Rattle.sp_emit.proofs.BegunBody.{begun_chain}
-use Rattle.sp_emit.proofs.FlagWords.{cleared_all}
 use Rattle.sp_emit.specs.Chains.{stmts_call, stmts_chain, chains}
-use Rattle.sp_emit.specs.Functions.{arguments_kept, argument_kept, mask_in, mask_kept, place_kept, state_kept, words_taken, words_freed, frame_words, frame_taken, frame_freed, base_slot, offset_slot, body_code, function_code, places_of, return_tail, emitted}
-use Rattle.sp_emit.specs.Instructions.{always}
-use Rattle.sp_emit.specs.declared.registers.TheConstants.{RESULT, MASK, FIRST}
+use Rattle.sp_emit.specs.Functions.{arguments_kept, state_kept, words_taken, words_freed, frame_words, frame_taken, frame_freed, base_slot, offset_slot, body_code, function_code, places_of, return_tail, emitted}
 use Rattle.sp_emit.proofs.Arguments.{did_stack}
-use Rattle.sp_emit.proofs.Passed.{result_read, given_back, end_run}
-use Rattle.sp_emit.proofs.Pointing.{Points, points_then, points_none, points_one, is_inside, Framed, Stays, inside_done}
+use Rattle.sp_emit.proofs.Passed.{end_run}
+use Rattle.sp_emit.proofs.Around.{Begins, cleared_in, arguments_in, state_in, Ends, given_back, back_in}
+use Rattle.sp_emit.proofs.Pointing.{Points, points_then, points_none, points_one, inside, Framed, Stays, inside_done}
 use Rattle.sp_emit.proofs.Serves.{function_run}
 use Rattle.sp_emit.specs.Places.{tops}
-use Rattle.sp_emit.proofs.Windows.{InWindow, own_window}
-use Rattle.sp_emit.proofs.WithinFrames.{GivesBack, CalleesStay, body_stays, read_inside, set_inside}
+use Rattle.sp_emit.proofs.Windows.{InWindow, own_window, unit_parts}
+use Rattle.sp_emit.proofs.WithinFrames.{GivesBack, CalleesStay, body_stays}
 use Rattle.sp_emit.specs.declared.stands.Homes.{Homes}
 use Rattle.sp_emit.proofs.WordPlaces.{Outside}
 
 -- ---- before and after the body
 
-arguments_inside : (homes : Homes) (slots frame n : ℕ) → n ≤ slots → Outside homes.first slots frame
-    → list_all (is_inside frame) (arguments_kept homes.first n) ≡ true
-arguments_inside homes slots frame zero le out = refl
-arguments_inside homes slots frame (suc n) le out = all_append (is_inside frame) (arguments_kept homes.first n)
-    (argument_kept homes.first n) (arguments_inside homes slots frame n (omega (arith, le)) out)
-    (rw (set_inside frame homes.first always n (FIRST + n) (out n le)) refl)
+begins_inside : (homes : Homes) (frame : ℕ) (f : PlainFunction) → Outside homes.first (slots_of f) frame
+    → (stmts_call f.body ≡ true → base_slot homes.first f + 2 ≤ frame) → Begins (inside frame) homes f
+begins_inside homes frame f out room = record {
+  mask = refl;
+  named = λ slot p is. refl;
+  here = λ slot lt. refl;
+  stores = λ slot lt there. lt-ltb (stack_word homes.first slot) frame (out slot lt there);
+  base = λ has. lt-ltb (base_slot homes.first f) frame (omega (arith, room has));
+  offset = λ has. lt-ltb (offset_slot homes.first f) frame (omega (arith, room has));
+}
 
-state_inside : (homes : Homes) (frame : ℕ) (f : PlainFunction) → f.mask < slots_of f
-    → Outside homes.first (slots_of f) frame → (stmts_call f.body ≡ true → base_slot homes.first f + 2 ≤ frame)
-    → list_all (is_inside frame) (state_kept homes f) ≡ true
-state_inside homes frame f mask out room =
-    all_append (is_inside frame) (mask_kept homes f) (place_kept homes.first f) (by (flag_of homes.flags f.mask))
-    (kept_is (λ bs. list_all (is_inside frame) bs ≡ true) homes.first f
-    (λ has. rw (
-      lt-ltb (base_slot homes.first f) frame (omega (arith, room has)),
-      lt-ltb (offset_slot homes.first f)
-          frame (omega (arith, room has)),
-    ) refl) refl)
-  where
-    by : (o : Option ℕ) → list_all (is_inside frame) (mask_in o homes.first f.mask) ≡ true
-    by None = rw (set_inside frame homes.first always f.mask MASK (out f.mask mask)) refl
-    by (Some p) = refl
-
-end_inside : (homes frame : ℕ) (f : PlainFunction) → f.result < slots_of f → Outside homes (slots_of f) frame
-    → (stmts_call f.body ≡ true → base_slot homes f + 2 ≤ frame) → list_all (is_inside frame) (given_back homes f)
-    ≡ true
-end_inside homes frame f result out room =
-    let read = read_inside frame homes RESULT f.result (out f.result result) in
-    brought_is (λ bs. list_all (is_inside frame) (bs ++ result_read homes f) ≡ true) homes f
-    (λ has. rw (
-      lt-ltb (base_slot homes f) frame (omega (arith, room has)),
-      lt-ltb (offset_slot homes f) frame
-          (omega (arith, room has)),
-      read,
-    ) refl) (rw (read) refl)
+ends_inside : (homes frame : ℕ) (f : PlainFunction) → f.result < slots_of f → Outside homes (slots_of f) frame
+    → (stmts_call f.body ≡ true → base_slot homes f + 2 ≤ frame) → Ends (inside frame) homes f
+ends_inside homes frame f result out room = record {
+  gives = record {
+    mask = refl;
+    result = refl;
+    reads = λ there. lt-ltb (stack_word homes f.result) frame (out f.result result there);
+  };
+  place = λ has. refl;
+  base = λ has. lt-ltb (base_slot homes f) frame (omega (arith, room has));
+  offset = λ has. lt-ltb (offset_slot homes f) frame (omega (arith, room has));
+}
 
 -- ---- functions
 
@@ -142,22 +125,21 @@ function_stays {homes} from code g fs number f w callees m whole high held enoug
     λ has. let is = words_called homes.first f has in omega (arith, is) in
     let t0 = run from (all_done (frame_taken homes.first f)) m in
     let x0 = takes from n m whole (omega (arith, few, p.frame)) high held (omega (arith, few, enough)) in
-    let c = inside_done from n (words_cleared homes (slots_of f)) t0 x0.stays (cleared_all (is_inside n) homes
-    (slots_of f) (λ slot p is. refl) (λ r. refl)) in
+    let b = begins_inside homes n f out calls in
+    let c = inside_done from n (words_cleared homes (slots_of f)) t0 x0.stays (cleared_in b) in
     let xc = entered_then x0 c in
     let tc = run from (all_done (words_cleared homes (slots_of f))) t0 in
     let x1 = entered_then xc (inside_done from n (arguments_kept homes.first f.parameters) tc xc.stays
-    (arguments_inside homes (slots_of f) n f.parameters (omega (arith, p.before_mask, p.mask)) out)) in
+    (arguments_in b f.parameters (omega (arith, p.before_mask, p.mask)))) in
     let t1 = run from (all_done (arguments_kept homes.first f.parameters)) tc in
-    let x2 = entered_then x1 (inside_done from n (state_kept homes f) t1 x1.stays
-    (state_inside homes n f p.mask out calls)) in
+    let x2 = entered_then x1 (inside_done from n (state_kept homes f) t1 x1.stays (state_in b p.mask)) in
     let t2 = run from (all_done (state_kept homes f)) t1 in
     let chain = begun_chain homes.flags g f in
     let x3 = entered_then x2 (body_stays w from code g callees t2 x2.stays
     (omega (arith, chain, x2.st, few, enough))) in
     let t3 = run from (parts_trail code (body_code homes f)) t2 in
     let x4 = entered_then x3 (inside_done from n (given_back homes.first f) t3 x3.stays
-    (end_inside homes.first n f p.result out calls)) in
+    (back_in (ends_inside homes.first n f p.result out calls))) in
     let t4 = run from (all_done (given_back homes.first f)) t3 in
     subst (GivesBack m)
     (sym (function_run homes from code f m ∙ ap (run from (all_done return_tail)) (end_run homes.first from f t3)))
@@ -201,14 +183,10 @@ pub task_stays : (u : PlainUnit) (from : Sources) (memory : Memory) (loads : Lis
     → AreWithinStack (run from (trail (emitted u)) (at_begin memory loads backs)).asked (pointers_of
     (at_begin memory loads backs))
 task_stays u from memory loads backs formed few =
-    let a = and_parts (nat_le (length u.functions) 512) _ formed in
-    let b = and_parts (functions_formed u.functions (length u.functions)) _ a.1 in
-    let c = and_parts (entry_formed u) _ b.1 in
-    let d = and_parts (nat_lt u.entry (length u.functions)) ((slice_index_or u.functions u.entry no_function).parameters
-    == 0) c.0 in
+    let p = unit_parts u formed in
     let begin = at_begin memory loads backs in
-    let g = (all_stay from u.functions (length u.functions) (omega arith) b.0).called u.entry
-    (ltb-true u.entry (length u.functions) d.0) begin
+    let g = (all_stay from u.functions (length u.functions) (omega arith) p.functions).called u.entry
+    p.entry begin
     (record { fits = record { count = refl; pred_count = refl; zero = refl; always = refl }; pending = refl })
     (omega arith) (omega arith) (omega (arith, few)) in
     subst (λ n. AreWithinStack (run from (trails (codes u.functions) n u.entry) begin).asked (pointers_of begin))

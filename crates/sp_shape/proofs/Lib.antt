@@ -1,3 +1,4 @@
+pub mod Along
 pub mod Functions
 pub mod Joins
 pub mod Lists

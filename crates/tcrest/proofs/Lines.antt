@@ -1,5 +1,5 @@
 -- What `pipe` tells of its core is what the report of the same job tells of it in the line of its state.
-use Rattle.std.proofs.Common.{◌≡◌, ℕ, List, [], ◌∷◌, ◌++◌, length, min, Some, refl, sym, ap, ◌∙◌}
+use Rattle.std.proofs.Common.{◌≡◌, ℕ, List, [], ◌∷◌, ◌++◌, length, min, Option, None, Some, refl, sym, ap, ◌∙◌}
 use Rattle.slot_arbiter.specs.Slot.{period}
 use Rattle.patmos_model.specs.Outcome.{state_at}
 use Rattle.patmos_model.specs.State.{Core}
@@ -17,8 +17,17 @@ use Rattle.job_rows.specs.Loading.{IsLoadedFor}
 use Rattle.job_rows.specs.Machine.{begun_on, cores_from, machine_of}
 use Rattle.tcrest.specs.Pipe.{pipe_of, steps_text}
 use Rattle.job_rows.specs.Rows.{row_of, running, status_of}
-use Rattle.job_tasks.specs.Tasks.{Coded, Runs, nothing, assembly, program, runs_made}
+use Rattle.job_tasks.specs.Tasks.{Coded, Runs, nothing, assembly, program, runs_by, runs_made}
+use Rattle.job_tasks.specs.Coding.{bounded, runs}
+use Rattle.job_tasks.specs.declared.program.Program.{Program}
+use Rattle.c_mentions.specs.Tasks.{core_task}
+use Rattle.std.specs.Option.{option_map}
 use Rattle.job_rows.proofs.RowsFound.{same_machine}
+
+-- a core runs the task that was made for it
+pub task_runs : (p : Option Program) → runs (core_task p) ≡ runs_by (option_map bounded p)
+task_runs None = refl
+task_runs (Some p) = refl
 
 -- rows that tell the same of state, bound and data have the same line
 same_line : (core : ℕ) (a b : Row) → a.state ≡ b.state → a.bound ≡ b.bound → a.alone ≡ b.alone → a.overrun ≡ b.overrun

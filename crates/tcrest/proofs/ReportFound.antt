@@ -6,7 +6,8 @@ use Rattle.global_step.specs.Machine.{at_limit}
 use Rattle.tc_job.specs.declared.job.Job.{Job}
 use Rattle.tc_report.specs.declared.rows.Row.{Row}
 use Rattle.job_tasks.specs.declared.answers.Answer.{Answer}
-use Rattle.job_tasks.specs.declared.tasks.CoreTask.{CoreTask}
+use Rattle.c_mentions.specs.declared.tasks.CoreTask.{CoreTask}
+use Rattle.job_tasks.specs.declared.program.Program.{Program}
 use Rattle.job_tasks.specs.Coding.{runs}
 use Rattle.job_tasks.specs.Tasks.{Coded, runs_on}
 use Rattle.tcrest.specs.Answer.{reported, report_of}
@@ -16,7 +17,7 @@ use Rattle.job_rows.specs.Loading.{IsLoadedFor}
 use Rattle.job_rows.proofs.RowsFound.{same_rows}
 
 -- where they are reported, the report is that of the job's machine
-pub report_is : {E : Type 0} (job : Job) (coded : List (Option Coded)) (tasks : List CoreTask) (m : Machine)
+pub report_is : {E : Type 0} (job : Job) (coded : List (Option Coded)) (tasks : List (CoreTask Program)) (m : Machine)
     (rows : List Row) (answer : Result Answer E)
     → IsLoadedFor job (cores_from job 0 coded) m → map runs tasks ≡ map runs_on coded → rows
     ≡ rows_of m.limit m.trace (map runs tasks) (at_limit m)

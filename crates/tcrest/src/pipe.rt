@@ -11,9 +11,9 @@ ghost use Rattle.tcrest.specs.PipeTold.{pipe_told, told_row};
 ghost use Rattle.tcrest.specs.Pipe as specs;
 ghost use Rattle.job_rows.specs.Rows as rows_specs;
 
-use c_mentions::is_alone;
-use job_rows::{all_running, bare_row, is_flagged, status_of};
-use job_tasks::{Answer, CodedTask, CoreTask, RangedJob};
+use c_mentions::CoreTask;
+use job_rows::{bare_row, is_flagged, runs_alone, status_of};
+use job_tasks::{Answer, CodedTask, Program, RangedJob};
 use patmos_code::Image;
 use patmos_core::CoreState;
 use pipe_five::{Beat, PipeCore};
@@ -114,7 +114,7 @@ fn stages_answer(
     place: Place,
     image: &Image,
     input: &[u32],
-    task: &CoreTask,
+    task: &CoreTask<Program>,
 ) -> Result<Answer, OutOfMemory>
     requires alone { place.cores ≡ 1 }
     ensures { IfOk result (λ answer. answer
@@ -159,17 +159,16 @@ fn put_steps(
 }
 
 // the row of the core, of which the line of its state alone is reported
-fn end_row(alloc: Global, task: &CoreTask, state: CoreState) -> Result<Row, OutOfMemory>
+fn end_row(alloc: Global, task: &CoreTask<Program>, state: CoreState) -> Result<Row, OutOfMemory>
     ensures { IfOk result (λ row. row ≡ told_row (runs task.now) state) }
 {
-    let all = all_running(alloc, slice::from_ref(task))?;
     let row = bare_row(alloc, state);
     match task {
         CoreTask::Idle => Ok(row),
         CoreTask::Assembly => Ok(row),
         CoreTask::C(program) => Ok(Row {
             bound: Some(program.bound),
-            alone: is_alone(0, &all),
+            alone: runs_alone(0, slice::from_ref(task)),
             overrun: is_flagged(state),
             ..row
         }),

@@ -1,6 +1,6 @@
 -- Emitted code: its iterations and calls are those of its tree, and each call, and the function itself, takes or
 -- brings back the words of a frame once.
-use Rattle.std.proofs.Common.{Bool, ◌≡◌, ℕ, ◌+◌, ◌-◌, ◌*◌, ◌≤◌, ◌==◌, nat_lt, true, List, [], ◌∷◌, ◌++◌, Option, None, Some, refl, arith, mul-le-mul_left}
+use Rattle.std.proofs.Common.{Bool, false, ◌≡◌, ℕ, ◌+◌, ◌-◌, ◌*◌, ◌≤◌, ◌==◌, nat_lt, true, List, [], ◌∷◌, ◌++◌, Option, None, Some, refl, arith, mul-le-mul_left}
 use Rattle.std.specs.Prelude.{max}
 use Rattle.std.specs.List.{list_all}
 use Rattle.std.proofs.lemmas.Bool.{and_parts, eqb-true}
@@ -17,13 +17,17 @@ use Rattle.sp_emit.specs.Expressions.{word_code, unary_code, binary_code, held_c
 use Rattle.sp_emit.specs.Flags.{behind_first, begun_body}
 use Rattle.sp_emit.specs.Functions.{first_counter, frame_words, arguments_kept, state_kept, frame_taken, function_begin, function_end, function_rest, body_code, function_code}
 use Rattle.sp_emit.specs.Instructions.{always, where_so, under, set_number, combine}
-use Rattle.sp_emit.specs.Places.{flag_of, mask_test, told_at, read_word, set_word, words_cleared}
+use Rattle.sp_emit.specs.Places.{flag_of, mask_test, told_at, set_word, words_cleared}
 use Rattle.sp_emit.specs.Truths.{bit_sought}
 use Rattle.sp_emit.specs.Statements.{slot_write, result_write, cell_write, element_write, target_write, guarded_code, args_code, call_code, send_code, overrun_code, iterations_begin, iterations_tail, slot_set, stmt_code, stmts_code, mask_handed}
 use Rattle.sp_emit.specs.declared.registers.TheConstants.{RESULT, FIRST}
-use Rattle.sp_emit.proofs.Around.{kept_all, end_all}
+use Rattle.sp_emit.proofs.Around.{kept_in, ends_in, wide_begins, wide_ends}
+use Rattle.sp_emit.proofs.Effects.{Footprint, is_in, AreIn, everything, IsWide}
+use Rattle.sp_tree.proofs.Forms.{FunctionParts}
+use Rattle.patmos_instr.specs.declared.functions.StackFunc.{StackFunc}
+use Rattle.patmos_instr.specs.declared.functions.StackFunc.TheVariants.{Sfree}
 use Rattle.sp_emit.proofs.BegunBody.{begun_is}
-use Rattle.sp_emit.proofs.Footprints.{is_in, AreIn, everything, tests_in, unary_in, held_in, number_in, read_in, set_in, word_in, bit_in, seek_in, match_in, begin_in, tail_in, handed_in, overrun_in, cell_in, element_in, cell_write_in, element_write_in, send_in, alu_in}
+use Rattle.sp_emit.proofs.Footprints.{tests_in, unary_in, held_in, number_in, set_in, word_in, bit_in, seek_in, match_in, begin_in, tail_in, handed_in, overrun_in, cell_in, element_in, cell_write_in, element_write_in, send_in, alu_in}
 use Rattle.sp_shape.proofs.Lists.{all_weaker}
 use Rattle.sp_emit.proofs.Codes.{taken_is}
 use Rattle.sp_emit.proofs.Lasts.{is_alu, write_is}
@@ -71,11 +75,22 @@ few_straight most count bs some past =
 abbrev is_quick : PlainBundle → Bool
 is_quick b = bundle_past b == 0
 
-is_kept : (b : PlainBundle) → is_in everything b ≡ true → is_quick b ≡ true
+-- no words of the stack are taken, and no frame is brought back
+abbrev frees : StackFunc → ℕ → Bool
+frees Sfree count = true
+frees _ count = false
+
+abbrev quick : Footprint
+quick = record everything { stacks = frees }
+
+quick_wide : IsWide quick
+quick_wide = record { sets = λ r. refl; reads = λ word. refl; stores = λ word. refl }
+
+is_kept : (b : PlainBundle) → is_in quick b ≡ true → is_quick b ≡ true
 is_kept b within = grind (arith, within)
 
-all_quick : (bs : List PlainBundle) → AreIn everything bs → list_all is_quick bs ≡ true
-all_quick bs = all_weaker (is_in everything) is_quick is_kept bs
+all_quick : (bs : List PlainBundle) → AreIn quick bs → list_all is_quick bs ≡ true
+all_quick bs = all_weaker (is_in quick) is_quick is_kept bs
 
 none_past : (bs : List PlainBundle) → list_all is_quick bs ≡ true → bundles_past bs ≤ 0
 none_past [] h = omega arith
@@ -83,10 +98,10 @@ none_past (b ∷ bs) h =
     let both = and_parts (is_quick b) (list_all is_quick bs) h in
     omega (arith, eqb-true (bundle_past b) 0 both.0, none_past bs both.1)
 
-in_past : (bs : List PlainBundle) → AreIn everything bs → bundles_past bs ≤ 0
+in_past : (bs : List PlainBundle) → AreIn quick bs → bundles_past bs ≤ 0
 in_past bs all = none_past bs (all_quick bs all)
 
-few_lone : (most : ℕ) (bs : List PlainBundle) → 1 ≤ most → AreIn everything bs → IsFew most 0 (one (straight bs))
+few_lone : (most : ℕ) (bs : List PlainBundle) → 1 ≤ most → AreIn quick bs → IsFew most 0 (one (straight bs))
 few_lone most bs some all = few_straight most 0 bs some (omega (arith, in_past bs all))
 
 -- ---- expressions
@@ -113,17 +128,17 @@ binary_few most op rd ra rb some within = record {
 value_few : (most : ℕ) (homes : Homes) (e : PlainSp) (rd to : ℕ) → 1 ≤ most → expr_iterations e ≤ most
     → IsFew most 0 (value_code homes e rd to)
 value_few most homes (constant n) rd to some within =
-    few_lone most (set_number to n ∷ []) some (rw (number_in everything to n refl) refl)
+    few_lone most (set_number to n ∷ []) some (rw (number_in quick to n refl) refl)
 value_few most homes (frame_word slot) rd to some within =
     few_lone most (word_code (flag_of homes.flags slot) homes.first to slot) some
-    (word_in everything homes to slot refl (λ out. refl))
+    (word_in quick homes to slot refl (λ out. refl))
 value_few most homes (cell_word cell) rd to some within =
-    few_lone most (cell_code cell to) some (cell_in everything cell to refl refl)
+    few_lone most (cell_code cell to) some (cell_in quick cell to refl refl)
 value_few most homes (array_word array index) rd to some within =
     few_lone most (element_code array to (value_at homes index rd)) some
-    (element_in everything array to (value_at homes index rd) refl refl)
+    (element_in quick array to (value_at homes index rd) refl refl)
 value_few most homes (before_one op of) rd to some within = few_lone most
-    (unary_code op to (value_at homes of rd)) some (unary_in everything op to (value_at homes of rd) refl)
+    (unary_code op to (value_at homes of rd)) some (unary_in quick op to (value_at homes of rd) refl)
 value_few most homes (between_two op a b) rd to some within =
     let own : op_iterations op ≤ most = omega (arith, within) in
     one_of (IsFew most 0) (is_immediate op b) (nat_lt (need a) (need b))
@@ -131,7 +146,7 @@ value_few most homes (between_two op a b) rd to some within =
     (binary_code op to (value_at homes a (rd + 1)) (value_at homes b rd))
     (binary_code op to (value_at homes a rd) (value_at homes b (rd + 1)))
     (few_lone most (held_code op to (value_at homes a rd) (number_of b)) some
-    (held_in everything op to (value_at homes a rd) (number_of b) refl))
+    (held_in quick op to (value_at homes a rd) (number_of b) refl))
     (λ less. binary_few most op to (value_at homes a (rd + 1)) (value_at homes b rd) some own)
     (λ more. binary_few most op to (value_at homes a rd) (value_at homes b (rd + 1)) some own)
 
@@ -173,8 +188,8 @@ truths_few most homes some = record {
   first = λ op a b h. omega (arith, h);
   second = λ op a b h. omega (arith, h);
   operands = λ e h. operands_few most homes e FIRST some h;
-  tests = λ bs tests. few_lone most bs some (tests_in everything bs tests);
-  bits = λ slot h. few_lone most (bit_sought homes.first slot) some (bit_in everything homes.first slot (λ out. refl));
+  tests = λ bs tests. few_lone most bs some (tests_in quick bs tests);
+  bits = λ slot h. few_lone most (bit_sought homes.first slot) some (bit_in quick homes.first slot (λ out. refl));
 }
 
 -- ---- statements
@@ -183,17 +198,17 @@ target_few : (most : ℕ) (homes : Homes) (mask : ℕ) (target : PlainSpTarget) 
     → IsFew most 0 (target_write homes mask target)
 target_few most homes mask (to_slot slot) some within =
     few_lone most (slot_write homes mask slot) some (rw (
-      seek_in everything homes mask (λ out. refl),
-      match_in everything homes mask,
-      set_in everything homes.first (where_so (told_at homes mask)) slot FIRST refl (λ out. refl),
+      seek_in quick homes mask (λ out. refl),
+      match_in quick homes mask,
+      set_in quick homes.first (where_so (told_at homes mask)) slot FIRST refl (λ out. refl),
     ) refl)
 target_few most homes mask (to_cell cell) some within =
-    few_lone most (cell_write homes mask cell) some (cell_write_in everything homes mask cell refl (λ out. refl))
+    few_lone most (cell_write homes mask cell) some (cell_write_in quick homes mask cell refl (λ out. refl))
 target_few most homes mask (to_array array index) some within =
     few_both most 0 0 (expr_code homes index (FIRST + 1)) (one (straight (element_write homes mask array)))
     (expr_few most homes index (FIRST + 1) (FIRST + 1) some within)
     (few_lone most (element_write homes mask array) some
-    (element_write_in everything homes mask array refl refl (λ out. refl)))
+    (element_write_in quick homes mask array refl refl (λ out. refl)))
 
 guarded_few : (most : ℕ) (homes : Homes) (mask to : ℕ) (e : PlainSp) (op : Op) → 1 ≤ most → expr_iterations e ≤ most
     → is_alu to op ≡ true → IsFew most 0 (guarded_code homes mask e op)
@@ -201,17 +216,17 @@ guarded_few most homes mask to e op some within alu =
     let last = mask_test homes mask ++ under (where_so (told_at homes mask)) op ∷ [] in
     few_both most 0 0 (operands_code homes e FIRST) (one (straight last))
     (operands_few most homes e FIRST some within) (few_lone most last some (rw (
-      seek_in everything homes mask (λ out. refl),
-      match_in everything homes mask,
-      alu_in everything (where_so (told_at homes mask)) to op alu refl,
+      seek_in quick homes mask (λ out. refl),
+      match_in quick homes mask,
+      alu_in quick (where_so (told_at homes mask)) to op alu refl,
     ) refl))
 
 result_past : (homes : Homes) (mask : ℕ) (result : Option ℕ) → bundles_past (result_write homes mask result) ≤ 0
 result_past homes mask None = omega arith
 result_past homes mask (Some slot) = in_past (result_write homes mask (Some slot)) (rw (
-  seek_in everything homes mask (λ out. refl),
-  match_in everything homes mask,
-  set_in everything homes.first (where_so (told_at homes mask)) slot RESULT refl (λ out. refl),
+  seek_in quick homes mask (λ out. refl),
+  match_in quick homes mask,
+  set_in quick homes.first (where_so (told_at homes mask)) slot RESULT refl (λ out. refl),
 ) refl)
 
 call_few : (most : ℕ) (homes : Homes) (frame mask k : ℕ) (result : Option ℕ) → 1 ≤ most
@@ -222,7 +237,7 @@ call_few most homes frame mask k result some = record {
   calls = omega arith;
   past = omega (
     arith,
-    in_past (mask_handed homes mask) (handed_in everything homes mask refl (λ out. refl)),
+    in_past (mask_handed homes mask) (handed_in quick homes mask refl (λ out. refl)),
     result_past homes mask result,
   );
 }
@@ -237,8 +252,8 @@ repeated_few homes count counter most made body x = record {
   past = omega (
     arith,
     x.past,
-    in_past (iterations_begin homes counter count) (begin_in everything homes counter count refl (λ out. refl)),
-    in_past (iterations_tail homes counter) (tail_in everything homes counter refl (λ out. refl) (λ out. refl) refl),
+    in_past (iterations_begin homes counter count) (begin_in quick homes counter count refl (λ out. refl)),
+    in_past (iterations_tail homes counter) (tail_in quick homes counter refl (λ out. refl) (λ out. refl) refl),
   );
 }
 
@@ -254,7 +269,7 @@ mutual
       (λ plain there. few_both i 0 0 (expr_code homes e FIRST) (slot_set homes.first slot)
       (expr_few i homes e FIRST FIRST some (omega arith))
       (few_lone i (set_word homes.first always slot FIRST ∷ []) some
-      (rw (set_in everything homes.first always slot FIRST refl (λ out. refl)) refl)))
+      (rw (set_in quick homes.first always slot FIRST refl (λ out. refl)) refl)))
   stmt_few homes frame counter (writes mask target e) =
       let i = max (target_iterations target) (expr_iterations e) in
       let some : 1 ≤ i = omega (arith, some_expr e) in
@@ -276,13 +291,13 @@ mutual
       (expr_few i homes target (FIRST + 1) (FIRST + 1) some (omega arith))
       (few_both i 0 0 (expr_code homes count (FIRST + 2)) sent (expr_few i homes count (FIRST + 2) (FIRST + 2) some
       (omega arith)) (few_lone i (send_code homes mask core) some
-      (send_in everything homes mask core refl refl (λ out. refl)))))
+      (send_in quick homes mask core refl refl (λ out. refl)))))
   stmt_few homes frame counter (overruns mask e) =
       let i = expr_iterations e in
       let some = some_expr e in
       few_both i 0 0 (expr_code homes e FIRST) (one (straight (overrun_code homes mask)))
       (expr_few i homes e FIRST FIRST some (omega arith)) (few_lone i (overrun_code homes mask) some
-      (overrun_in everything homes mask refl (λ out. refl)))
+      (overrun_in quick homes mask refl (λ out. refl)))
   stmt_few homes frame counter (iterations count body) =
       repeated_few homes.first count counter (stmts_iterations body) (stmts_call_count body)
       (stmts_code homes frame (counter - 1) body) (stmts_few homes frame (counter - 1) body)
@@ -303,24 +318,19 @@ mutual
 
 -- ---- functions
 
-set_quick : (homes slot rs : ℕ) → is_quick (set_word homes always slot rs) ≡ true
-set_quick homes slot rs =
-    is_kept (set_word homes always slot rs) (set_in everything homes always slot rs refl (λ out. refl))
-
-begin_past : (homes : Homes) (f : PlainFunction) → bundles_past (function_begin homes f) ≤ 31
-begin_past homes f =
+begin_past : {fs : List PlainFunction} {number : ℕ} (homes : Homes) (f : PlainFunction) → FunctionParts fs number f
+    → bundles_past (function_begin homes f) ≤ 31
+begin_past homes f p =
     let kept = words_cleared homes (slots_of f) ++ (arguments_kept homes.first f.parameters ++ state_kept homes f) in
     omega (
       arith,
       past_append (frame_taken homes.first f) kept,
       taken_is (λ bs. bundles_past bs ≤ 31) (frame_words homes.first f) (omega arith) (omega arith),
-      none_past kept (kept_all is_quick homes f (λ r. refl) (set_quick homes.first) refl (λ slot p is. refl)
-          (λ p is. refl) refl),
+      in_past kept (kept_in (wide_begins quick_wide homes f (λ slot p is. refl)) p),
     )
 
 end_past : (homes : ℕ) (f : PlainFunction) → bundles_past (function_end homes f) ≤ 0
-end_past homes f = none_past (function_end homes f) (end_all is_quick homes f refl
-    (is_kept (read_word homes RESULT f.result) (read_in everything homes RESULT f.result refl (λ out. refl))) refl refl)
+end_past homes f = in_past (function_end homes f) (ends_in (wide_ends quick_wide refl homes f) refl)
 
 begun_iterations : (flags : Flags) (f : PlainFunction) → stmts_iterations (begun_body flags f) ≤ stmts_iterations f.body
 begun_iterations flags f =
@@ -337,8 +347,9 @@ begun_calls flags f = begun_is (λ ts. stmts_call_count ts ≤ stmts_call_count 
     by no_stmt = omega arith
     by (stmt t rest) = omega arith
 
-pub function_few : (homes : Homes) (f : PlainFunction) → IsFewOf f (function_code homes f)
-function_few homes f =
+pub function_few : {fs : List PlainFunction} {number : ℕ} (homes : Homes) (f : PlainFunction) → FunctionParts fs number f
+    → IsFewOf f (function_code homes f)
+function_few homes f p =
     let body = body_code homes f in
     let x = stmts_few homes (frame_words homes.first f) (first_counter f) (begun_body homes.flags f) in
     let fewer = begun_iterations homes.flags f in
@@ -351,7 +362,7 @@ function_few homes f =
         joined_past body (function_rest homes.first f),
         x.past,
         less,
-        begin_past homes f,
+        begin_past homes f p,
         end_past homes.first f,
       );
     }

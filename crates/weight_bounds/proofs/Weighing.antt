@@ -26,7 +26,8 @@ module _ (u : PlainUnit) (weights : List ℕ) (formed : is_formed u ≡ true)
   few k below =
       let f = slice_index_or u.functions k no_function in
       let ps = slice_index_or (emitted u).functions k no_part in
-      let x = subst (IsFewOf f) (sym (codes_at u.functions k below)) (function_few (places_of u.functions k) f) in
+      let x = subst (IsFewOf f) (sym (codes_at u.functions k below)) (function_few (places_of u.functions k) f
+      (emit.window u formed k below).parts) in
       let y = scheduled_has_no_more ps in
       subst (IsFewOf f) (sym (schedule.scheduled_at (emitted u) (scheduled (emitted u)) refl k))
       (record {

@@ -6,7 +6,7 @@ use Rattle.global_step.specs.declared.loaded.LoadedCore.{LoadedCore}
 use Rattle.job_tasks.specs.Coding.{coded_of, made_of, runs}
 use Rattle.tcrest.specs.PipeTold.{pipe_told}
 use Rattle.job_tasks.specs.Tasks.{Coded, runs_made}
-use Rattle.tcrest.proofs.Lines.{told_as_reported}
+use Rattle.tcrest.proofs.Lines.{task_runs, told_as_reported}
 use Rattle.tcrest.proofs.pipe.core_answer.Goals as goal
 
 pub returns : goal.returns
@@ -18,7 +18,8 @@ returns c =
     ≡ begun (site_on c.args.job.now 0 task.start image) task.input =
     ap (λ site. begun site input) (c.place_of-place.ensures.site image)
     ∙ ap (begun (site_on c.args.job.now 0 task.start image)) (search rules) in
-    let run : runs c.of-runs.result ≡ runs_made (made_of c.in-Some.field-0.made) = c.of-runs.ensures in
+    let run : runs c.of-runs.result ≡ runs_made (made_of c.in-Some.field-0.made) = ap runs c.of-runs.ensures
+    ∙ task_runs c.in-Some.field-0.made.program in
     let told = subst (λ x. IfOk c.stages_answer.result (λ a. a ≡ pipe_told c.args.job.now (runs c.of-runs.result) x))
     begins c.stages_answer.ensures in
     let whole = subst (λ r. IfOk c.stages_answer.result
