@@ -1,35 +1,29 @@
 -- A program without a fault fits: its functions have few variables open, and its calls few arguments.
 use Rattle.std.proofs.Common.{◌≡◌, ℕ, ◌+◌, ◌≤◌, ◌<◌, ◌*◌, zero, suc, Bool, true, false, List, [], ◌∷◌, ◌++◌, length, get_or, map, Option, None, Some, refl, sym, subst, length-append, arith}
-use Rattle.std.specs.Prelude.{⊤, IsTrue, not, nat_lt, ◌==◌, ◌&&◌, is_some, IfSome}
+use Rattle.std.specs.Prelude.{⊤, IfSome}
 use Rattle.std.specs.List.{AllByRecursion as Each}
 use Rattle.std.specs.Option.{option_map}
-use Rattle.std.proofs.lemmas.Bool.Decides.{nat_tests}
 use Rattle.std.proofs.lemmas.List.Sums.{sum_by-cons}
-use Rattle.c_tree.specs.declared.checks.CheckFault.TheVariants as fault
 use Rattle.c_tree.specs.declared.checks.Meaning.{Meaning}
 use Rattle.c_tree.specs.declared.checks.Meaning.TheVariants as meaning
-use Rattle.c_tree.specs.declared.checks.Within.{Within}
 use Rattle.c_tree.specs.declared.layout.Slot.{Slot}
-use Rattle.c_tree.specs.declared.limits.TheConstants.{MOST_FRAME_WORDS, MOST_FUNCTION_WEIGHT, MOST_LEVELS, MOST_PARAMETERS, MOST_TASK_WEIGHT}
-use Rattle.c_tree.specs.declared.statements.Kind.{Kind}
+use Rattle.c_tree.specs.declared.limits.TheConstants.{MOST_LEVELS, MOST_PARAMETERS, MOST_TASK_WEIGHT}
 use Rattle.c_tree.specs.declared.statements.Stmt.{Stmt}
 use Rattle.c_tree.specs.declared.units.Global.{Global}
 use Rattle.c_tree.specs.declared.units.Item.{Item}
 use Rattle.c_tree.specs.declared.units.Length.{Length}
 use Rattle.c_tree.specs.declared.units.Parameter.{Parameter}
-use Rattle.c_tree.specs.Checks.{callee_faults, call_faults, args_faults, right_faults, whole_faults, twice_faults, declare_faults, scalar_faults, array_faults, bound_faults, head_faults, stmt_faults, block_faults, arms_faults, otherwise_faults, body_faults, opened, looped, after}
-use Rattle.c_tree.specs.Frame.{stmt_frame, block_frame, arms_frame, otherwise_frame, body_frame, function_frame}
+use Rattle.c_tree.specs.Checks.{after}
+use Rattle.c_tree.specs.Frame.{stmt_frame, block_frame, arms_frame, otherwise_frame, body_frame}
 use Rattle.c_tree.specs.Layout.{is_unsigned}
-use Rattle.c_tree.specs.Least.{where_so}
 use Rattle.c_tree.specs.Names.{Found, Named, last_named, found, declared, given}
 use Rattle.c_tree.proofs.LastNamed.{last_has}
 use Rattle.c_tree.specs.Plain.{PlainExpr, PlainRight, PlainStmt, PlainBlock, PlainArms, PlainOtherwise, PlainItem, plain_stmt, plain_item}
 use Rattle.c_tree.specs.Plain as plain
-use Rattle.c_tree.specs.Sizes.{kind_size, expr_size, bound_size, head_size, stmt_size, block_size, arms_size, list_size, item_size}
-use Rattle.c_tree.specs.Tokens.{gives_tokens}
-use Rattle.c_tree.specs.Valid.{IsValid, has_none, function_means, named_faults, parameters_faults, with_parameters, inner_faults, item_faults, items_faults, with_item, means_of}
-use Rattle.c_tree.specs.Weight.{function_weight, item_weight, items_weight}
-use Rattle.c_tree.proofs.Faultless.{none_left, none_right, not_so, not_past, in_items, task_fits}
+use Rattle.c_tree.specs.Valid.{IsValid, function_means, with_parameters, with_item, means_of}
+use Rattle.c_tree.specs.Weight.{item_weight, items_weight}
+use Rattle.c_tree.proofs.Typing.{typed_of}
+use Rattle.c_tree.specs.Typed.{CallTyped, RightTyped, FirstTyped, StmtTyped, BlockTyped, ArmsTyped, OtherwiseTyped, BodyTyped, names_inside, ItemTyped, ItemsTyped}
 use Rattle.c_tree.specs.Plains.{block_of}
 use Rattle.c_meaning.specs.Fits.{ArgsFit, RightFits, FirstFits, StmtFits, BlockFits, ArmsFit, OtherwiseFits, BodyFits, ItemFits}
 use Rattle.c_meaning.specs.Meaning.{names_after, parameter_variables}
@@ -70,43 +64,19 @@ after_few names _ few = few
 
 -- ---- calls
 
-callee_few : (is_right : Bool) (at arguments : ℕ) (m : Option Meaning) → FoundFew m
-    → IsTrue (has_none (callee_faults is_right at arguments m))
-    → arguments ≤ MOST_PARAMETERS
-callee_few is_right at arguments None few none = absurd (cc)
-callee_few is_right at arguments (Some meaning.Scalar) few none = absurd (cc)
-callee_few is_right at arguments (Some meaning.Array) few none = absurd (cc)
-callee_few is_right at arguments (Some (meaning.Function parameters gives inside)) few none =
-    let typed = where_so (is_right && not gives) at fault.WrongType in
-    let again = where_so inside at fault.Recursion in
-    let counted = where_so (not (arguments == parameters)) at fault.Params in
-    let same = not_so (not (arguments == parameters)) at fault.Params
-    (none_right again counted (none_right typed (again ++ counted) none)) in
-    as_many arguments parameters same few
-  where
-    as_many : (a p : ℕ) → not (a == p) ≡ false → p ≤ MOST_PARAMETERS → a ≤ MOST_PARAMETERS
-    as_many a p same few = grind (arith, nat_tests, same, few)
+call_few : (names : List Named) (text : List ℕ) (args : List PlainExpr) → FewIn names → CallTyped names text args
+    → ArgsFit args
+call_few names text args few typed = subst FoundFew typed.0.1 (found_few text names few)
 
-call_few : (is_right : Bool) (names : List Named) (at : ℕ) (text : List ℕ) (args : List PlainExpr) → FewIn names
-    → IsTrue (has_none (call_faults is_right names at text args)) → ArgsFit args
-call_few is_right names at text args few none =
-    callee_few is_right at (length args) (found text names) (found_few text names few)
-    (none_left (callee_faults is_right at (length args) (found text names)) (args_faults names (at + 2) args) none)
+right_few : (names : List Named) (r : PlainRight) → FewIn names → RightTyped names r → RightFits r
+right_few names (plain.value e) few typed = tt
+right_few names (plain.call text args) few typed = call_few names text args few typed
 
-right_few : (names : List Named) (at : ℕ) (r : PlainRight) → FewIn names → IsTrue (has_none (right_faults names at r))
-    → RightFits r
-right_few names at (plain.value e) few none = tt
-right_few names at (plain.call text args) few none = call_few true names at text args few none
-
-first_few : (outer : ℕ) (names : List Named) (at : ℕ) (kind : Kind) (text : List ℕ) (r : Option PlainRight)
-    → FewIn names
-    → IsTrue (has_none (declare_faults outer names at kind text r)) → FirstFits r
-first_few outer names at kind text None few none = tt
-first_few outer names at kind text (Some r) few none =
-    right_few (declared names text meaning.Scalar) (at + kind_size kind + 2) r
-    (declared_few names text meaning.Scalar few tt)
-    (none_right (twice_faults outer names (at + kind_size kind) text) (right_faults (declared names text meaning.Scalar)
-    (at + kind_size kind + 2) r) none)
+first_few : (names : List Named) (text : List ℕ) (r : Option PlainRight) → FewIn names → FirstTyped names text r
+    → FirstFits r
+first_few names text None few typed = tt
+first_few names text (Some r) few typed =
+    right_few (declared names text meaning.Scalar) r (declared_few names text meaning.Scalar few tt) typed
 
 -- ---- statements
 
@@ -119,90 +89,7 @@ after_open open_names (plain.declared kind text r) =
     omega (arith, length-append open_names.variables (v ∷ []))
 after_open open_names _ = omega arith
 
-mutual
-  unfolding stmt_faults block_faults arms_faults otherwise_faults stmt_frame block_frame arms_frame otherwise_frame
-
-  pub stmt_fits : (w : Within) (names : List Named) (at : ℕ) (o : Names) (s : PlainStmt) → FewIn names
-      → IsTrue (has_none (stmt_faults w names at s))
-      → length o.variables + stmt_frame s ≤ MOST_LEVELS → StmtFits o s
-  stmt_fits w names at o (plain.declared kind text r) few none room =
-      (omega (arith, room), first_few w.outer names at kind text r few none)
-  stmt_fits w names at o (plain.set text r) few none room =
-      right_few names (at + 2) r few (none_right (scalar_faults names at text) (right_faults names (at + 2) r) none)
-  stmt_fits w names at o (plain.set_element text index r) few none room =
-      let rest = right_faults names (at + 2 + expr_size index + 2) r in
-      right_few names (at + 2 + expr_size index + 2) r few
-      (none_right (whole_faults names (at + 2) index) rest (none_right (array_faults names at text)
-      (whole_faults names (at + 2) index ++ rest) none))
-  stmt_fits w names at o (plain.called text args) few none room = call_few false names at text args few none
-  stmt_fits w names at o (plain.chosen arms otherwise) few none room =
-      let first = arms_faults w names at arms in
-      let rest = otherwise_faults w names (at + arms_size arms) otherwise in (
-        arms_fit w names at o arms few (none_left first rest none) (omega (arith, room)),
-        otherwise_fits w names (at + arms_size arms) o otherwise few (none_right first rest none) (omega (arith, room)),
-      )
-  stmt_fits w names at o (plain.looped bound head body) few none room =
-      let behind = at + bound_size bound in
-      let body_at = at + bound_size bound + head_size head + 1 in
-      let rest = block_faults (looped w (length names)) names body_at body in
-      block_fits (looped w (length names)) names body_at o body few
-      (none_right (head_faults names behind head) rest (none_right (bound_faults at bound)
-      (head_faults names behind head ++ rest) none))
-      (omega (arith, room))
-  stmt_fits w names at o (plain.inner body) few none room =
-      block_fits (opened w (length names)) names (at + 1) o body few none room
-  stmt_fits w names at o _ few none room = tt
-
-  block_fits : (w : Within) (names : List Named) (at : ℕ) (o : Names) (b : PlainBlock) → FewIn names
-      → IsTrue (has_none (block_faults w names at b))
-      → length o.variables + block_frame b ≤ MOST_LEVELS → BlockFits o b
-  block_fits w names at o plain.no_stmt few none room = tt
-  block_fits w names at o (plain.stmt s rest) few none room =
-      let first = stmt_faults w names at s in
-      let behind = block_faults w (after names s) (at + stmt_size s) rest in (
-        stmt_fits w names at o s few (none_left first behind none) (omega (arith, room)),
-        block_fits w (after names s) (at + stmt_size s) (names_after o s) rest (after_few names s few)
-            (none_right first behind none)
-            (omega (arith, room, after_open o s)),
-      )
-
-  arms_fit : (w : Within) (names : List Named) (at : ℕ) (o : Names) (arms : PlainArms) → FewIn names
-      → IsTrue (has_none (arms_faults w names at arms))
-      → length o.variables + arms_frame arms ≤ MOST_LEVELS → ArmsFit o arms
-  arms_fit w names at o plain.no_arm few none room = tt
-  arms_fit w names at o (plain.arm condition body rest) few none room =
-      let body_at = at + 2 + expr_size condition + 2 in
-      let held = whole_faults names (at + 2) condition in
-      let block = block_faults (opened w (length names)) names body_at body in
-      let rest_at = at + (expr_size condition + block_size body + 5 + 1) in
-      let behind = arms_faults w names rest_at rest in (
-        block_fits (opened w (length names)) names body_at o body few
-            (none_right held block (none_left (held ++ block) behind none)) (omega (arith, room)),
-        arms_fit w names rest_at o rest few (none_right (held ++ block) behind none) (omega (arith, room)),
-      )
-
-  otherwise_fits : (w : Within) (names : List Named) (at : ℕ) (o : Names) (otherwise : PlainOtherwise) → FewIn names
-      → IsTrue (has_none (otherwise_faults w names at otherwise)) → length o.variables + otherwise_frame otherwise
-      ≤ MOST_LEVELS → OtherwiseFits o otherwise
-  otherwise_fits w names at o plain.no_else few none room = tt
-  otherwise_fits w names at o (plain.or_else body) few none room =
-      block_fits (opened w (length names)) names (at + 1 + 1) o body few none room
-
-body_fits : (w : Within) (names : List Named) (at : ℕ) (o : Names) (body : List PlainStmt) → FewIn names
-    → IsTrue (has_none (body_faults w names at body))
-    → length o.variables + body_frame body ≤ MOST_LEVELS → BodyFits o body
-body_fits w names at o [] few none room = tt
-body_fits w names at o (s ∷ rest) few none room =
-    let first = stmt_faults w names at s in
-    let behind = body_faults w (after names s) (at + stmt_size s) rest in
-    let sum = sum_by-cons stmt_frame s rest in (
-      stmt_fits w names at o s few (none_left first behind none) (omega (arith, room, sum)),
-      body_fits w (after names s) (at + stmt_size s) (names_after o s) rest (after_few names s few)
-          (none_right first behind none)
-          (omega (arith, room, sum, after_open o s)),
-    )
-
--- ---- functions
+-- ---- names of parameters, and of what is declared outside functions
 
 parameters_few : (names : List Named) (parameters : List Parameter) → FewIn names
     → FewIn (with_parameters names parameters)
@@ -214,54 +101,6 @@ pub parameters_open : (parameters : List Parameter) → length (parameter_variab
 parameters_open [] = refl
 parameters_open (p ∷ parameters) = omega (arith, parameters_open parameters)
 
--- what a function's name tells: few parameters, and words enough
-record NameFits (parameters : List Parameter) (body : List PlainStmt) : Type 0 where
-  pub few : length parameters ≤ MOST_PARAMETERS
-  pub framed : function_frame parameters body ≤ MOST_FRAME_WORDS
-
-name_fits : (names : List Named) (at : ℕ) (text : List ℕ) (parameters : List Parameter) (body : List PlainStmt)
-    → IsTrue (has_none (named_faults names at text parameters body)) → NameFits parameters body
-name_fits names at text parameters body none =
-    let twice = twice_faults 0 names at text in
-    let many = where_so (nat_lt MOST_PARAMETERS (length parameters)) at fault.Params in
-    let large = where_so (nat_lt MOST_FRAME_WORDS (function_frame parameters body)) at fault.Frame in
-    let heavy = where_so (nat_lt MOST_FUNCTION_WEIGHT (function_weight body)) at fault.Heavy in
-    let behind = none_right twice (many ++ (large ++ heavy)) none in
-    record {
-      few = not_past MOST_PARAMETERS (length parameters) at fault.Params (none_left many (large ++ heavy) behind);
-      framed = not_past MOST_FRAME_WORDS (function_frame parameters body) at fault.Frame
-          (none_left large heavy (none_right many (large ++ heavy) behind));
-    }
-
-inner_fits : (cores own : ℕ) (names : List Named) (at : ℕ) (kind : Option Kind) (void_word : Bool)
-    (parameters : List Parameter) (body : List PlainStmt) (o : Names)
-    → FewIn names → IsTrue (has_none (inner_faults cores own names at kind void_word parameters body))
-    → length o.variables + body_frame body ≤ MOST_LEVELS → BodyFits o body
-inner_fits cores own names at kind void_word parameters body o few none room =
-    let within : Within =
-    record { cores = cores; own = own; gives = is_some kind; in_loop = false; outer = length names } in
-    let body_at = at + 2 + list_size void_word parameters + 2 in
-    let all = with_parameters names parameters in
-    body_fits within all body_at o body (parameters_few names parameters few)
-    (none_right (parameters_faults (length names) names (at + 2) parameters) (body_faults within all body_at body) none)
-    room
-
-item_fits : (cores own : ℕ) (names : List Named) (at : ℕ) (slots : List Slot) (i : PlainItem) → FewIn names
-    → IsTrue (has_none (item_faults cores own names at i)) → ItemFits slots i
-item_fits cores own names at slots (plain.global of) few none = tt
-item_fits cores own names at slots (plain.function kind text void_word parameters body) few none =
-    let name_at = at + length (gives_tokens kind) in
-    let told = named_faults names name_at text parameters body in
-    let means = function_means true kind parameters in
-    let inside = inner_faults cores own (declared names text means) name_at kind void_word parameters body in
-    let fits : NameFits parameters body = name_fits names name_at text parameters body (none_left told inside none) in (
-      omega (arith, fits.few),
-      inner_fits cores own (declared names text means) name_at kind void_word parameters body
-          (record { slots = slots; variables = parameter_variables parameters })
-          (declared_few names text means few fits.few) (none_right told inside none)
-          (omega (arith, fits.framed, parameters_open parameters)),
-    )
-
 means_few : (names : List Named) (g : Global) → FewIn names → FewIn (declared names g.name (means_of g))
 means_few names g few = declared_few names g.name (means_of g) few (by g.length)
   where
@@ -269,35 +108,95 @@ means_few names g few = declared_few names g.name (means_of g) few (by g.length)
     by None = tt
     by (Some n) = tt
 
-with_item_few : (cores own : ℕ) (names : List Named) (at : ℕ) (i : PlainItem) → FewIn names
-    → IsTrue (has_none (item_faults cores own names at i)) → FewIn (with_item names i)
-with_item_few cores own names at (plain.global of) few none = means_few names of few
-with_item_few cores own names at (plain.function kind text void_word parameters body) few none =
-    let name_at = at + length (gives_tokens kind) in
-    let told = named_faults names name_at text parameters body in
-    let inside = inner_faults cores own (declared names text (function_means true kind parameters)) name_at kind
-    void_word parameters body in
-    let fits : NameFits parameters body = name_fits names name_at text parameters body (none_left told inside none) in
-    declared_few names text (function_means false kind parameters) few fits.few
+-- ---- what is typed fits
 
--- ---- programs
+module _ (cores own : ℕ) where
+  mutual
+    unfolding stmt_frame block_frame arms_frame otherwise_frame
 
-items_fit : (cores own : ℕ) (names : List Named) (at : ℕ) (slots : List Slot) (items : List PlainItem) → FewIn names
-    → IsTrue (has_none (items_faults cores own names at items)) → Each (ItemFits slots) items
-items_fit cores own names at slots [] few none = tt
-items_fit cores own names at slots (i ∷ items) few none =
-    let first = item_faults cores own names at i in
-    let behind = items_faults cores own (with_item names i) (at + item_size i) items in
-    let here = none_left first behind none in (
-      item_fits cores own names at slots i few here,
-      items_fit cores own (with_item names i) (at + item_size i) slots items
-          (with_item_few cores own names at i few here) (none_right first behind none),
+    pub stmt_fits : (inside : Bool) (names : List Named) (o : Names) (s : PlainStmt) → FewIn names
+        → StmtTyped cores own inside names s → length o.variables + stmt_frame s ≤ MOST_LEVELS → StmtFits o s
+    stmt_fits inside names o (plain.declared kind text r) few typed room =
+        (omega (arith, room), first_few names text r few typed)
+    stmt_fits inside names o (plain.set text r) few typed room = right_few names r few typed.1
+    stmt_fits inside names o (plain.set_element text index r) few typed room = right_few names r few typed.2
+    stmt_fits inside names o (plain.called text args) few typed room = call_few names text args few typed
+    stmt_fits inside names o (plain.chosen arms otherwise) few typed room = (
+      arms_fit inside names o arms few typed.0 (omega (arith, room)),
+      otherwise_fits inside names o otherwise few typed.1 (omega (arith, room)),
     )
+    stmt_fits inside names o (plain.looped bound head body) few typed room =
+        block_fits true names o body few typed.1 (omega (arith, room))
+    stmt_fits inside names o (plain.inner body) few typed room = block_fits inside names o body few typed room
+    stmt_fits inside names o _ few typed room = tt
+
+    block_fits : (inside : Bool) (names : List Named) (o : Names) (b : PlainBlock) → FewIn names
+        → BlockTyped cores own inside names b → length o.variables + block_frame b ≤ MOST_LEVELS → BlockFits o b
+    block_fits inside names o plain.no_stmt few typed room = tt
+    block_fits inside names o (plain.stmt s rest) few typed room = (
+      stmt_fits inside names o s few typed.0 (omega (arith, room)),
+      block_fits inside (after names s) (names_after o s) rest (after_few names s few) typed.1
+          (omega (arith, room, after_open o s)),
+    )
+
+    arms_fit : (inside : Bool) (names : List Named) (o : Names) (arms : PlainArms) → FewIn names
+        → ArmsTyped cores own inside names arms → length o.variables + arms_frame arms ≤ MOST_LEVELS → ArmsFit o arms
+    arms_fit inside names o plain.no_arm few typed room = tt
+    arms_fit inside names o (plain.arm condition body rest) few typed room = (
+      block_fits inside names o body few typed.1 (omega (arith, room)),
+      arms_fit inside names o rest few typed.2 (omega (arith, room)),
+    )
+
+    otherwise_fits : (inside : Bool) (names : List Named) (o : Names) (otherwise : PlainOtherwise) → FewIn names
+        → OtherwiseTyped cores own inside names otherwise
+        → length o.variables + otherwise_frame otherwise ≤ MOST_LEVELS → OtherwiseFits o otherwise
+    otherwise_fits inside names o plain.no_else few typed room = tt
+    otherwise_fits inside names o (plain.or_else body) few typed room = block_fits inside names o body few typed room
+
+  body_fits : (names : List Named) (o : Names) (body : List PlainStmt) → FewIn names → BodyTyped cores own names body
+      → length o.variables + body_frame body ≤ MOST_LEVELS → BodyFits o body
+  body_fits names o [] few typed room = tt
+  body_fits names o (s ∷ rest) few typed room =
+      let sum = sum_by-cons stmt_frame s rest in (
+        stmt_fits false names o s few typed.0 (omega (arith, room, sum)),
+        body_fits (after names s) (names_after o s) rest (after_few names s few) typed.1
+            (omega (arith, room, sum, after_open o s)),
+      )
+
+  -- ---- functions
+
+  item_fits : (names : List Named) (slots : List Slot) (i : PlainItem) → FewIn names → ItemTyped cores own names i
+      → ItemFits slots i
+  item_fits names slots (plain.global of) few typed = tt
+  item_fits names slots (plain.function kind text void_word parameters body) few typed =
+      let means = function_means true kind parameters in (
+        omega (arith, typed.few),
+        body_fits (names_inside names kind text parameters)
+            (record { slots = slots; variables = parameter_variables parameters }) body
+            (parameters_few (declared names text means) parameters (declared_few names text means few typed.few))
+            typed.inside (omega (arith, typed.framed, parameters_open parameters)),
+      )
+
+  with_item_few : (names : List Named) (i : PlainItem) → FewIn names → ItemTyped cores own names i
+      → FewIn (with_item names i)
+  with_item_few names (plain.global of) few typed = means_few names of few
+  with_item_few names (plain.function kind text void_word parameters body) few typed =
+      declared_few names text (function_means false kind parameters) few typed.few
+
+  -- ---- programs
+
+  items_fit : (names : List Named) (slots : List Slot) (items : List PlainItem) → FewIn names
+      → ItemsTyped cores own names items → Each (ItemFits slots) items
+  items_fit names slots [] few typed = tt
+  items_fit names slots (i ∷ items) few typed = (
+    item_fits names slots i few typed.0,
+    items_fit (with_item names i) slots items (with_item_few names i few typed.0) typed.1,
+  )
 
 pub program_fits : (cores own : ℕ) (slots : List Slot) (items : List PlainItem) → IsValid items cores own
     → Each (ItemFits slots) items
 program_fits cores own slots items valid =
-    items_fit cores own given 0 slots items (tt, (tt, tt)) (in_items cores own items valid)
+    items_fit cores own given slots items (tt, (tt, tt)) (typed_of cores own items valid).each
 
 pub item_at : (slots : List Slot) (items : List Item) (i : ℕ) (t : Item) → i < length items → t ≡ get_or items i t
     → Each (ItemFits slots) (map plain_item items) → ItemFits slots (plain_item t)
@@ -328,4 +227,4 @@ names_weigh (plain.function kind text void_word parameters body ∷ items) =
 
 pub few_functions : (cores own : ℕ) (items : List PlainItem) → IsValid items cores own → length (names_in items)
     ≤ MOST_TASK_WEIGHT
-few_functions cores own items valid = omega (arith, names_weigh items, task_fits cores own items valid)
+few_functions cores own items valid = omega (arith, names_weigh items, (typed_of cores own items valid).light)

@@ -1,6 +1,6 @@
 -- The slots of a valid program lie within their memories, and what a name stands for is one of them.
 use Rattle.std.proofs.Common.{ℕ, ◌+◌, ◌≤◌, suc, Bool, true, false, List, [], ◌∷◌, arith}
-use Rattle.std.specs.Prelude.{IsTrue, if◌then◌else◌, bytes_eq, codes}
+use Rattle.std.specs.Prelude.{if◌then◌else◌, bytes_eq, codes}
 use Rattle.std.proofs.lemmas.List.Elements.{All-append, All-cons, All-nil}
 use Rattle.std.proofs.lemmas.List.Sums.{sum_by-cons}
 use Rattle.local_store.specs.declared.map.Cell.TheVariants as cell
@@ -10,12 +10,11 @@ use Rattle.c_tree.specs.declared.layout.Slot.{Slot}
 use Rattle.c_tree.specs.Layout.{is_unsigned, slot_of, item_slots, given_slots, slots_from, layout_of}
 use Rattle.c_tree.specs.Names.{Named, given}
 use Rattle.c_tree.specs.Plain.{PlainItem, global, function}
-use Rattle.c_tree.specs.Sizes.{item_size}
-use Rattle.c_tree.specs.Valid.{IsValid, has_none, words_of, item_faults, items_faults, item_words, words_in, with_item}
-use Rattle.c_tree.proofs.Faultless.{none_left, none_right, in_items, private_fits, scratch_fits}
+use Rattle.c_tree.specs.Valid.{IsValid, words_of, item_words, words_in, with_item}
+use Rattle.c_tree.proofs.Typing.{typed_of}
+use Rattle.c_tree.specs.Typed.{ItemTyped, ItemsTyped, Typed}
 use Rattle.c_meaning.specs.Fits.{SlotFits, SlotsFit, StandsFits}
 use Rattle.c_meaning.specs.Scope.{outside, among_slots}
-use Rattle.c_meaning.proofs.Fits.{GlobalFits, global_fits}
 
 placed : (scratch : Bool) (name : List ℕ) (unsigned : Bool) (first at words : ℕ) → 1 ≤ words
     → first + (if scratch then 0 else words) ≤ PRIVATE_WORDS → at + (if scratch then words else 0) ≤ SCRATCH_WORDS
@@ -28,17 +27,6 @@ placed : (scratch : Bool) (name : List ℕ) (unsigned : Bool) (first at words : 
 placed true name unsigned first at words some private scratch = (some, scratch)
 placed false name unsigned first at words some private scratch = (some, private)
 
-item_fits : (cores own : ℕ) (names : List Named) (at private scratch : ℕ) (i : PlainItem)
-    → IsTrue (has_none (item_faults cores own names at i))
-    → private + item_words false i ≤ PRIVATE_WORDS → scratch + item_words true i ≤ SCRATCH_WORDS
-    → SlotsFit (item_slots private scratch i)
-item_fits cores own names at private scratch (global g) none first behind =
-    let fits : GlobalFits g = global_fits names at g none in
-    All-cons SlotFits (slot_of private scratch g) [] (placed g.scratch g.name (is_unsigned g.kind) private scratch
-    (words_of g) fits.some first behind) (All-nil SlotFits)
-item_fits cores own names at private scratch (function its_kind text void_word parameters body) none first behind =
-    All-nil SlotFits
-
 given_fit : SlotsFit given_slots
 given_fit =
     let shared : Slot =
@@ -47,28 +35,34 @@ given_fit =
     All-cons SlotFits shared (comm ∷ []) (omega arith, omega arith)
     (All-cons SlotFits comm [] (omega arith, omega arith) (All-nil SlotFits))
 
-slots_fit : (cores own : ℕ) (names : List Named) (at private scratch : ℕ) (items : List PlainItem)
-    → IsTrue (has_none (items_faults cores own names at items))
-    → private + words_in false items ≤ PRIVATE_WORDS → scratch + words_in true items ≤ SCRATCH_WORDS
-    → SlotsFit (slots_from private scratch items)
-slots_fit cores own names at private scratch [] none first behind = given_fit
-slots_fit cores own names at private scratch (i ∷ items) none first behind =
-    let here = item_faults cores own names at i in
-    let later = items_faults cores own (with_item names i) (at + item_size i) items in
-    let sum = sum_by-cons (item_words false) i items in
-    let scratch_sum = sum_by-cons (item_words true) i items in
-    All-append SlotFits (item_slots private scratch i) (slots_from (private + item_words false i)
-    (scratch + item_words true i) items)
-    (item_fits cores own names at private scratch i (none_left here later none) (omega (arith, first, sum))
-    (omega (arith, behind, scratch_sum)))
-    (slots_fit cores own (with_item names i) (at + item_size i) (private + item_words false i)
-    (scratch + item_words true i) items
-    (none_right here later none) (omega (arith, first, sum)) (omega (arith, behind, scratch_sum)))
+module _ (cores own : ℕ) where
+  item_fits : (names : List Named) (private scratch : ℕ) (i : PlainItem) → ItemTyped cores own names i
+      → private + item_words false i ≤ PRIVATE_WORDS → scratch + item_words true i ≤ SCRATCH_WORDS
+      → SlotsFit (item_slots private scratch i)
+  item_fits names private scratch (global g) typed first last =
+      All-cons SlotFits (slot_of private scratch g) [] (placed g.scratch g.name (is_unsigned g.kind) private scratch
+      (words_of g) typed.some first last) (All-nil SlotFits)
+  item_fits names private scratch (function its_kind text void_word parameters body) typed first last =
+      All-nil SlotFits
+
+  slots_fit : (names : List Named) (private scratch : ℕ) (items : List PlainItem) → ItemsTyped cores own names items
+      → private + words_in false items ≤ PRIVATE_WORDS → scratch + words_in true items ≤ SCRATCH_WORDS
+      → SlotsFit (slots_from private scratch items)
+  slots_fit names private scratch [] typed first last = given_fit
+  slots_fit names private scratch (i ∷ items) typed first last =
+      let sum = sum_by-cons (item_words false) i items in
+      let scratch_sum = sum_by-cons (item_words true) i items in
+      All-append SlotFits (item_slots private scratch i) (slots_from (private + item_words false i)
+      (scratch + item_words true i) items)
+      (item_fits names private scratch i typed.0 (omega (arith, first, sum)) (omega (arith, last, scratch_sum)))
+      (slots_fit (with_item names i) (private + item_words false i) (scratch + item_words true i) items typed.1
+      (omega (arith, first, sum)) (omega (arith, last, scratch_sum)))
 
 pub layout_fits : (cores own : ℕ) (items : List PlainItem) → IsValid items cores own → SlotsFit (layout_of items)
 layout_fits cores own items valid =
-    slots_fit cores own given 0 FIRST_DATA_WORD 0 items (in_items cores own items valid)
-    (omega (arith, private_fits cores own items valid)) (omega (arith, scratch_fits cores own items valid))
+    let typed : Typed cores own items = typed_of cores own items valid in
+    slots_fit cores own given FIRST_DATA_WORD 0 items typed.each (omega (arith, typed.private))
+    (omega (arith, typed.scratch))
 
 -- what a name stands for among slots
 pub found_fits : (text : List ℕ) (slots : List Slot) → SlotsFit slots → StandsFits (among_slots text slots)

@@ -1,22 +1,18 @@
 -- The frames on each chain of calls of a valid program's tree fit the stack: each function weighs more than twice its
 -- frame.
 use Rattle.std.proofs.Common.{ℕ, zero, suc, ◌+◌, ◌*◌, ◌<◌, ◌≤◌, ◌==◌, Bool, true, false, if◌then◌else◌, List, [], ◌∷◌, ◌++◌, length, None, Some, slice_index, slice_index_or, arith}
-use Rattle.std.specs.Prelude.{IsTrue, nat_lt}
 use Rattle.std.proofs.lemmas.List.Sums.{sum_by-cons}
 use Rattle.c_tree.specs.declared.checks.CheckFault.TheVariants as fault
-use Rattle.c_tree.specs.declared.limits.TheConstants.{MOST_FRAME_WORDS, MOST_FUNCTION_WEIGHT, MOST_PARAMETERS}
+use Rattle.c_tree.specs.declared.limits.TheConstants.{MOST_PARAMETERS}
 use Rattle.c_tree.specs.declared.units.Parameter.{Parameter}
-use Rattle.c_tree.specs.Checks.{twice_faults}
 use Rattle.c_tree.specs.Frame.{stmt_frame, block_frame, arms_frame, otherwise_frame, body_frame, function_frame}
-use Rattle.c_tree.specs.Least.{where_so}
 use Rattle.c_tree.specs.Names.{Named, given}
 use Rattle.c_tree.specs.Plain.{PlainHead, PlainStmt, PlainBlock, PlainArms, PlainOtherwise, PlainItem, global, function}
 use Rattle.c_tree.specs.Plain as plain
-use Rattle.c_tree.specs.Sizes.{item_size}
-use Rattle.c_tree.specs.Tokens.{gives_tokens}
-use Rattle.c_tree.specs.Valid.{IsValid, has_none, named_faults, item_faults, items_faults, with_item}
+use Rattle.c_tree.specs.Valid.{IsValid, with_item}
 use Rattle.c_tree.specs.Weight.{head_weight, stmt_weight, block_weight, arms_weight, otherwise_weight, body_weight, function_weight, item_weight, items_weight}
-use Rattle.c_tree.proofs.Faultless.{none_left, none_right, not_past, in_items, task_fits}
+use Rattle.c_tree.specs.Typed.{ItemsTyped, Typed}
+use Rattle.c_tree.proofs.Typing.{typed_of}
 use Rattle.stack_cache.specs.declared.stack.TheConstants.{STACK_LOWEST, STACK_END}
 use Rattle.sp_tree.specs.Statements.{PlainStmts, no_stmt, stmt, PlainFunction, no_function}
 use Rattle.sp_tree.specs.Statements as tree
@@ -70,31 +66,16 @@ abbrev sum : List ℕ → ℕ
 sum [] = 0
 sum (n ∷ ns) = n + sum ns
 
-few_parameters : (names : List Named) (at : ℕ) (text : List ℕ) (parameters : List Parameter) (body : List PlainStmt)
-    → IsTrue (has_none (named_faults names at text parameters body)) → length parameters ≤ MOST_PARAMETERS
-few_parameters names at text parameters body none =
-    let params = where_so (nat_lt MOST_PARAMETERS (length parameters)) at fault.Params in
-    let rest = where_so (nat_lt MOST_FRAME_WORDS (function_frame parameters body)) at fault.Frame
-    ++ where_so (nat_lt MOST_FUNCTION_WEIGHT (function_weight body)) at fault.Heavy in
-    not_past MOST_PARAMETERS (length parameters) at fault.Params
-    (none_left params rest (none_right (twice_faults 0 names at text) (params ++ rest) none))
-
-frames_weigh : (cores own : ℕ) (names : List Named) (at : ℕ) (items : List PlainItem)
-    → IsTrue (has_none (items_faults cores own names at items)) → 2 * sum (frames_in items) ≤ items_weight items
-frames_weigh cores own names at [] none = omega arith
-frames_weigh cores own names at (global of ∷ items) none =
-    let more = frames_weigh cores own (with_item names (global of)) (at + item_size (global of)) items
-    (none_right (item_faults cores own names at (global of)) _ none) in
+frames_weigh : (cores own : ℕ) (names : List Named) (items : List PlainItem) → ItemsTyped cores own names items
+    → 2 * sum (frames_in items) ≤ items_weight items
+frames_weigh cores own names [] typed = omega arith
+frames_weigh cores own names (global of ∷ items) typed =
+    let more = frames_weigh cores own (with_item names (global of)) items typed.1 in
     omega (arith, more, sum_by-cons item_weight (global of) items)
-frames_weigh cores own names at (function kind text void_word parameters body ∷ items) none =
+frames_weigh cores own names (function kind text void_word parameters body ∷ items) typed =
     let i = function kind text void_word parameters body in
-    let name_at = at + length (gives_tokens kind) in
-    let here = none_left (item_faults cores own names at i) _ none in
-    let few = few_parameters names name_at text parameters body
-    (none_left (named_faults names name_at text parameters body) _ here) in
-    let more = frames_weigh cores own (with_item names i) (at + item_size i) items
-    (none_right (item_faults cores own names at i) _ none) in
-    omega (arith, more, function_weighs parameters body few, sum_by-cons item_weight i items)
+    let more = frames_weigh cores own (with_item names i) items typed.1 in
+    omega (arith, more, function_weighs parameters body typed.0.few, sum_by-cons item_weight i items)
 
 -- ---- chains
 
@@ -160,6 +141,6 @@ chains_fit cores own items few valid =
     let chain = chains_below fs (length fs) (single items).entry in
     let all = first_of_all fs (length fs) in
     let made = frames_sum fs (frames_in items) (taken_frames cores own items few valid) in
-    let weigh = frames_weigh cores own given 0 items (in_items cores own items valid) in
-    let fits = task_fits cores own items valid in
-    omega (arith, chain, all, made, weigh, fits)
+    let typed : Typed cores own items = typed_of cores own items valid in
+    let weigh = frames_weigh cores own given items typed.each in
+    omega (arith, chain, all, made, weigh, typed.light)

@@ -19,7 +19,7 @@ pub program_meaning : (place : Place) (items : List PlainItem) → IsValid items
     → HasMeaning (single items) place input world cycles own c → HasProgramMeaning items place input world cycles own c
 program_meaning place items valid input world cycles own c has =
     let is : IsMeant (tree.meant (single items) place input world) (said items place input world) =
-    taken_meant place.cores place.core items valid input world (comm_in place world) in
+    taken_meant place.cores place.core items place.in_range.cores_most valid input world (comm_in place world) in
     subst (λ value. Leaves place world cycles (times place items).end value (said items place input world).world own c)
     is.value
     (subst (λ (w : World). Leaves place world cycles (times place items).end

@@ -1,20 +1,12 @@
 -- The code of a valid program fits an image: with its size, each function takes at most as many words as it weighs.
 use Rattle.std.proofs.Common.{◌≡◌, ℕ, zero, suc, ◌+◌, ◌<◌, ◌≤◌, nat_le, true, List, [], ◌∷◌, ◌++◌, length, slice_index, slice_index_or, refl, ap, ◌∙◌, arith}
-use Rattle.std.specs.Prelude.{IsTrue, nat_lt}
 use Rattle.std.proofs.lemmas.Bool.{and_parts, leb-true}
 use Rattle.std.proofs.lemmas.List.Sums.{sum_by-cons}
 use Rattle.c_tree.specs.declared.checks.CheckFault.TheVariants as fault
-use Rattle.c_tree.specs.declared.limits.TheConstants.{MOST_FRAME_WORDS, MOST_FUNCTION_WEIGHT, MOST_PARAMETERS}
-use Rattle.c_tree.specs.Checks.{twice_faults}
-use Rattle.c_tree.specs.Frame.{function_frame}
-use Rattle.c_tree.specs.Least.{where_so}
-use Rattle.c_tree.specs.Names.{Named, given}
 use Rattle.c_tree.specs.Plain.{PlainItem, global, function}
-use Rattle.c_tree.specs.Sizes.{item_size}
-use Rattle.c_tree.specs.Tokens.{gives_tokens}
-use Rattle.c_tree.specs.Valid.{IsValid, has_none, named_faults, item_faults, items_faults, with_item}
-use Rattle.c_tree.specs.Weight.{function_weight, item_weight, items_weight}
-use Rattle.c_tree.proofs.Faultless.{none_left, none_right, not_past, in_items, task_fits}
+use Rattle.c_tree.specs.Valid.{IsValid}
+use Rattle.c_tree.specs.Weight.{item_weight, items_weight}
+use Rattle.c_tree.proofs.Typing.{typed_of}
 use Rattle.slot_arbiter.specs.declared.place.Place.{Place}
 use Rattle.sp_tree.specs.Cost.{cost}
 use Rattle.sp_tree.specs.Formed as tree
@@ -31,6 +23,7 @@ use Rattle.bundle_sched.proofs.WellFormed as schedule_formed
 use Rattle.tc_link.specs.Fits.{FitsImage}
 use Rattle.tc_link.specs.Placed.{words_below, size_of}
 use Rattle.single_path.specs.Single.{weights_in, single}
+use Rattle.single_path.proofs.Limited.{light}
 use Rattle.single_path.proofs.TakenIn.{taken_is_formed, taken_costs}
 use Rattle.task_core.specs.Tasks.{code_of}
 
@@ -39,30 +32,6 @@ use Rattle.task_core.specs.Tasks.{code_of}
 abbrev sum : List ℕ → ℕ
 sum [] = 0
 sum (n ∷ ns) = n + sum ns
-
--- none is heavier than a function may be
-light : (cores own : ℕ) (names : List Named) (at : ℕ) (items : List PlainItem)
-    → IsTrue (has_none (items_faults cores own names at items)) → (k : ℕ)
-    → slice_index (weights_in items) k ≤ MOST_FUNCTION_WEIGHT
-light cores own names at [] none k = omega arith
-light cores own names at (global of ∷ items) none k =
-    light cores own (with_item names (global of)) (at + item_size (global of)) items
-    (none_right (item_faults cores own names at (global of)) _ none) k
-light cores own names at (function kind text void_word parameters body ∷ items) none zero =
-    let i = function kind text void_word parameters body in
-    let name_at = at + length (gives_tokens kind) in
-    let params = where_so (nat_lt MOST_PARAMETERS (length parameters)) name_at fault.Params in
-    let frame = where_so (nat_lt MOST_FRAME_WORDS (function_frame parameters body)) name_at fault.Frame in
-    let heavy = where_so (nat_lt MOST_FUNCTION_WEIGHT (function_weight body)) name_at fault.Heavy in
-    let here = none_left (named_faults names name_at text parameters body) _
-    (none_left (item_faults cores own names at i) _ none) in
-    not_past MOST_FUNCTION_WEIGHT (function_weight body) name_at fault.Heavy
-    (none_right frame heavy (none_right params (frame ++ heavy) (none_right (twice_faults 0 names name_at text)
-    (params ++ (frame ++ heavy)) here)))
-light cores own names at (function kind text void_word parameters body ∷ items) none (suc k) =
-    let i = function kind text void_word parameters body in
-    light cores own (with_item names i) (at + item_size i) items (none_right (item_faults cores own names at i) _ none)
-    k
 
 -- together they weigh what the task weighs
 weights_sum : (items : List PlainItem) → sum (weights_in items) ≡ items_weight items
@@ -145,7 +114,6 @@ module _ (place : Place) (items : List PlainItem) (valid : IsValid items place.c
   program_fits =
       let u : PlainUnit = single items in
       let count = code_length u in
-      let none = in_items place.cores place.core items valid in
       let words = words_within (size_of (code_of u)) (weights_in items) (length u.functions) tree_size in
       let all = first_of_all (weights_in items) (length u.functions) in
       let a = and_parts (nat_le (length u.functions) 512) _ formed in
@@ -155,9 +123,9 @@ module _ (place : Place) (items : List PlainItem) (valid : IsValid items place.c
       let first = and_parts (nat_le (4 + length u.initial) 49152) _ d.0 in
       let second = and_parts (nat_le 4 u.input_at) (nat_le (u.input_at + u.input_room) 49152) first.1 in
       record {
-        small = λ k below. omega (arith, program_size k below, light place.cores place.core given 0 items none k);
+        small = λ k below. omega (arith, program_size k below, light place.cores place.core items valid k);
         within = let same = ap (words_below (size_of (code_of u))) count in
-            omega (arith, same, words, all, weights_sum items, task_fits place.cores place.core items valid);
+            omega (arith, same, words, all, weights_sum items, (typed_of place.cores place.core items valid).light);
         initial = let few = leb-true (4 + length u.initial) 49152 first.0 in omega (arith, few);
         input_from = leb-true 4 u.input_at second.0;
         input_room = leb-true (u.input_at + u.input_room) 49152 second.1;

@@ -1,21 +1,18 @@
 -- A valid program sends to other cores of its platform alone.
-use Rattle.std.proofs.Common.{◌≡◌, ℕ, ◌+◌, ◌<◌, ◌==◌, ◌||◌, Bool, true, false, not, List, [], ◌∷◌, ◌++◌, length, Option, None, Some, refl, sym, subst, is_some, true≢false, ltb-true, eq-eqb}
-use Rattle.std.specs.Prelude.{IsTrue, nat_lt}
+use Rattle.std.proofs.Common.{◌≡◌, ℕ, ◌+◌, ◌<◌, ◌==◌, ◌||◌, Bool, true, false, List, [], ◌∷◌, ◌++◌, Option, None, Some, refl, sym, subst, true≢false}
 use Rattle.std.specs.List.{list_any, AllByRecursion as Each}
 use Rattle.std.proofs.lemmas.Bool.{eqb-true}
 use Rattle.shared_order.proofs.Lists.{each-append}
 use Rattle.c_tree.specs.declared.checks.CheckFault.TheVariants as fault
-use Rattle.c_tree.specs.declared.checks.Within.{Within}
 use Rattle.c_tree.specs.declared.layout.Slot.{Slot}
-use Rattle.c_tree.specs.Checks.{looped, opened, after, target_faults, args_faults, head_faults, bound_faults, whole_faults, stmt_faults, block_faults, arms_faults, otherwise_faults, body_faults}
+use Rattle.c_tree.specs.Checks.{after}
 use Rattle.c_tree.specs.Layout.{layout_of}
-use Rattle.c_tree.specs.Names.{Named, declared, given}
+use Rattle.c_tree.specs.Names.{Named, given}
 use Rattle.c_tree.specs.Plain.{PlainExpr, PlainSteps, PlainRight, PlainHead, PlainStmt, PlainBlock, PlainArms, PlainOtherwise, PlainItem}
 use Rattle.c_tree.specs.Plain as plain
-use Rattle.c_tree.specs.Sizes.{expr_size, bound_size, head_size, stmt_size, block_size, arms_size, list_size, item_size}
-use Rattle.c_tree.specs.Tokens.{gives_tokens}
-use Rattle.c_tree.specs.Valid.{IsValid, has_none, named_faults, inner_faults, parameters_faults, with_parameters, function_means, item_faults, items_faults, with_item}
-use Rattle.c_tree.proofs.Faultless.{none_left, none_right, not_so, in_items}
+use Rattle.c_tree.specs.Valid.{IsValid, with_item}
+use Rattle.c_tree.specs.Typed.{IsTarget, StmtTyped, BlockTyped, ArmsTyped, OtherwiseTyped, BodyTyped, names_inside, ItemsTyped}
+use Rattle.c_tree.proofs.Typing.{typed_of}
 use Rattle.c_meaning.specs.Meaning.{with_variable, names_after, parameter_variables}
 use Rattle.c_meaning.specs.Values.{Names, named}
 use Rattle.c_mentions.specs.Mentions.{is_send, sends_to}
@@ -26,7 +23,7 @@ module _ (cores own : ℕ) where
   abbrev SendsAway : Use → Type 0
   SendsAway (reads s) = Unit {0}
   SendsAway (sets s) = Unit {0}
-  SendsAway (sends core) = (core < cores) × (core ≡ own → ⊥)
+  SendsAway (sends core) = IsTarget cores own core
 
   abbrev Away : List Use → Type 0
   Away = Each SendsAway
@@ -80,119 +77,68 @@ module _ (cores own : ℕ) where
 
   -- ---- statements
 
-  other_core : (at core : ℕ) → IsTrue (has_none (target_faults cores own at core)) → SendsAway (sends core)
-  other_core at core none = by (nat_lt core cores) (core == own) (not_so (not (nat_lt core cores) || core == own) at
-      fault.Target none) (ltb-true core cores) (eq-eqb core own)
-    where
-      by : (a b : Bool) → (not a || b) ≡ false → (a ≡ true → core < cores) → (core ≡ own → b ≡ true)
-          → SendsAway (sends core)
-      by true false none low same = (low refl, λ is. true≢false (sym (same is)))
-      by true true none low same = absurd (true≢false none)
-      by false b none low same = absurd (true≢false none)
-
   mutual
-    unfolding stmt_faults block_faults arms_faults otherwise_faults
-
-    stmt_away : (names : List Named) (of : Names) (w : Within) → w.cores ≡ cores → w.own ≡ own
-        → (at : ℕ) (s : PlainStmt) → IsTrue (has_none (stmt_faults w names at s)) → Away (stmt_uses of s)
-    stmt_away names of w c o at (plain.declared kind text r) none = first_away (with_variable of kind text) r
-    stmt_away names of w c o at (plain.set text r) none = (tt, right_away of r)
-    stmt_away names of w c o at (plain.set_element text index r) none =
+    stmt_away : (inside : Bool) (names : List Named) (of : Names) (s : PlainStmt) → StmtTyped cores own inside names s
+        → Away (stmt_uses of s)
+    stmt_away inside names of (plain.declared kind text r) typed = first_away (with_variable of kind text) r
+    stmt_away inside names of (plain.set text r) typed = (tt, right_away of r)
+    stmt_away inside names of (plain.set_element text index r) typed =
         (tt, both (expr_uses of index) (right_uses of r) (expr_away of index) (right_away of r))
-    stmt_away names of w c o at (plain.called text args) none = args_away of args
-    stmt_away names of w c o at (plain.sent core core_unsigned source target count) none = (
-      other_core (at + 2) core (subst (λ n. IsTrue (has_none (target_faults n own (at + 2) core))) c
-          (subst (λ n. IsTrue (has_none (target_faults w.cores n (at + 2) core))) o
-          (none_left (target_faults w.cores w.own (at + 2) core) (args_faults names (at + 2 + 2)
-          (source ∷ target ∷ count ∷ [])) none))),
+    stmt_away inside names of (plain.called text args) typed = args_away of args
+    stmt_away inside names of (plain.sent core core_unsigned source target count) typed = (
+      typed.0,
       both (expr_uses of source) (expr_uses of target ++ expr_uses of count) (expr_away of source)
           (both (expr_uses of target) (expr_uses of count) (expr_away of target) (expr_away of count)),
     )
-    stmt_away names of w c o at (plain.chosen arms otherwise) none =
-        let first = arms_faults w names at arms in
-        let last = otherwise_faults w names (at + arms_size arms) otherwise in
-        both (arms_uses of arms) (otherwise_uses of otherwise) (arms_away names of w c o at arms
-        (none_left first last none))
-        (otherwise_away names of w c o (at + arms_size arms) otherwise (none_right first last none))
-    stmt_away names of w c o at (plain.looped bound head body) none =
-        let bounds = bound_faults at bound in
-        let heads = head_faults names (at + bound_size bound) head in
-        let inside = block_faults (looped w (length names)) names (at + bound_size bound + head_size head + 1) body in
-        both (head_uses of head) (block_uses of body) (head_away of head)
-        (block_away names of (looped w (length names)) c o (at + bound_size bound + head_size head + 1) body
-        (none_right heads inside (none_right bounds (heads ++ inside) none)))
-    stmt_away names of w c o at plain.broken none = tt
-    stmt_away names of w c o at plain.continued none = tt
-    stmt_away names of w c o at (plain.returned e) none = returned_away of e
-    stmt_away names of w c o at (plain.inner body) none =
-        block_away names of (opened w (length names)) c o (at + 1) body none
+    stmt_away inside names of (plain.chosen arms otherwise) typed =
+        both (arms_uses of arms) (otherwise_uses of otherwise) (arms_away inside names of arms typed.0)
+        (otherwise_away inside names of otherwise typed.1)
+    stmt_away inside names of (plain.looped bound head body) typed =
+        both (head_uses of head) (block_uses of body) (head_away of head) (block_away true names of body typed.1)
+    stmt_away inside names of plain.broken typed = tt
+    stmt_away inside names of plain.continued typed = tt
+    stmt_away inside names of (plain.returned e) typed = returned_away of e
+    stmt_away inside names of (plain.inner body) typed = block_away inside names of body typed
 
-    block_away : (names : List Named) (of : Names) (w : Within) → w.cores ≡ cores → w.own ≡ own
-        → (at : ℕ) (body : PlainBlock) → IsTrue (has_none (block_faults w names at body)) → Away (block_uses of body)
-    block_away names of w c o at plain.no_stmt none = tt
-    block_away names of w c o at (plain.stmt s rest) none =
-        let here = stmt_faults w names at s in
-        let behind = block_faults w (after names s) (at + stmt_size s) rest in
-        both (stmt_uses of s) (block_uses (names_after of s) rest) (stmt_away names of w c o at s
-        (none_left here behind none))
-        (block_away (after names s) (names_after of s) w c o (at + stmt_size s) rest (none_right here behind none))
+    block_away : (inside : Bool) (names : List Named) (of : Names) (body : PlainBlock)
+        → BlockTyped cores own inside names body → Away (block_uses of body)
+    block_away inside names of plain.no_stmt typed = tt
+    block_away inside names of (plain.stmt s rest) typed =
+        both (stmt_uses of s) (block_uses (names_after of s) rest) (stmt_away inside names of s typed.0)
+        (block_away inside (after names s) (names_after of s) rest typed.1)
 
-    arms_away : (names : List Named) (of : Names) (w : Within) → w.cores ≡ cores → w.own ≡ own
-        → (at : ℕ) (arms : PlainArms) → IsTrue (has_none (arms_faults w names at arms)) → Away (arms_uses of arms)
-    arms_away names of w c o at plain.no_arm none = tt
-    arms_away names of w c o at (plain.arm condition body rest) none =
-        let tests = whole_faults names (at + 2) condition in
-        let inside = block_faults (opened w (length names)) names (at + 2 + expr_size condition + 2) body in
-        let next = at + (expr_size condition + block_size body + 5 + 1) in
-        let behind = arms_faults w names next rest in
+    arms_away : (inside : Bool) (names : List Named) (of : Names) (arms : PlainArms)
+        → ArmsTyped cores own inside names arms → Away (arms_uses of arms)
+    arms_away inside names of plain.no_arm typed = tt
+    arms_away inside names of (plain.arm condition body rest) typed =
         both (expr_uses of condition) (block_uses of body ++ arms_uses of rest) (expr_away of condition)
-        (both (block_uses of body) (arms_uses of rest)
-        (block_away names of (opened w (length names)) c o (at + 2 + expr_size condition + 2) body
-        (none_right tests inside (none_left (tests ++ inside) behind none)))
-        (arms_away names of w c o next rest (none_right (tests ++ inside) behind none)))
+        (both (block_uses of body) (arms_uses of rest) (block_away inside names of body typed.1)
+        (arms_away inside names of rest typed.2))
 
-    otherwise_away : (names : List Named) (of : Names) (w : Within) → w.cores ≡ cores → w.own ≡ own
-        → (at : ℕ) (otherwise : PlainOtherwise) → IsTrue (has_none (otherwise_faults w names at otherwise))
-        → Away (otherwise_uses of otherwise)
-    otherwise_away names of w c o at plain.no_else none = tt
-    otherwise_away names of w c o at (plain.or_else body) none =
-        block_away names of (opened w (length names)) c o (at + 1 + 1) body none
+    otherwise_away : (inside : Bool) (names : List Named) (of : Names) (otherwise : PlainOtherwise)
+        → OtherwiseTyped cores own inside names otherwise → Away (otherwise_uses of otherwise)
+    otherwise_away inside names of plain.no_else typed = tt
+    otherwise_away inside names of (plain.or_else body) typed = block_away inside names of body typed
 
-  body_away : (names : List Named) (of : Names) (w : Within) → w.cores ≡ cores → w.own ≡ own
-      → (at : ℕ) (body : List PlainStmt) → IsTrue (has_none (body_faults w names at body)) → Away (body_uses of body)
-  body_away names of w c o at [] none = tt
-  body_away names of w c o at (s ∷ rest) none =
-      let here = stmt_faults w names at s in
-      let behind = body_faults w (after names s) (at + stmt_size s) rest in
-      both (stmt_uses of s) (body_uses (names_after of s) rest) (stmt_away names of w c o at s
-      (none_left here behind none))
-      (body_away (after names s) (names_after of s) w c o (at + stmt_size s) rest (none_right here behind none))
+  body_away : (names : List Named) (of : Names) (body : List PlainStmt) → BodyTyped cores own names body
+      → Away (body_uses of body)
+  body_away names of [] typed = tt
+  body_away names of (s ∷ rest) typed =
+      both (stmt_uses of s) (body_uses (names_after of s) rest) (stmt_away false names of s typed.0)
+      (body_away (after names s) (names_after of s) rest typed.1)
 
   -- ---- programs
 
-  items_away : (slots : List Slot) (names : List Named) (at : ℕ) (items : List PlainItem)
-      → IsTrue (has_none (items_faults cores own names at items)) → Away (items_uses slots items)
-  items_away slots names at [] none = tt
-  items_away slots names at (plain.global g ∷ items) none = items_away slots (with_item names (plain.global g))
-      (at + item_size (plain.global g)) items (none_right (item_faults cores own names at (plain.global g)) _ none)
-  items_away slots names at (plain.function kind text void_word parameters body ∷ items) none =
-      let i = plain.function kind text void_word parameters body in
-      let name_at = at + length (gives_tokens kind) in
-      let outer = declared names text (function_means true kind parameters) in
-      let here = none_left (item_faults cores own names at i) _ none in
-      let inner = none_right (named_faults names name_at text parameters body)
-      (inner_faults cores own outer name_at kind void_word parameters body) here in
-      let within : Within =
-      record { cores = cores; own = own; gives = is_some kind; in_loop = false; outer = length outer } in
-      let body_at = name_at + 2 + list_size void_word parameters + 2 in
-      both (body_uses (record { slots = slots; variables = parameter_variables parameters }) body)
-      (items_uses slots items)
-      (body_away (with_parameters outer parameters)
-      (record { slots = slots; variables = parameter_variables parameters }) within refl refl body_at body
-      (none_right (parameters_faults (length outer) outer (name_at + 2) parameters)
-      (body_faults within (with_parameters outer parameters) body_at body) inner))
-      (items_away slots (with_item names i) (at + item_size i) items
-      (none_right (item_faults cores own names at i) _ none))
+  items_away : (slots : List Slot) (names : List Named) (items : List PlainItem) → ItemsTyped cores own names items
+      → Away (items_uses slots items)
+  items_away slots names [] typed = tt
+  items_away slots names (plain.global g ∷ items) typed =
+      items_away slots (with_item names (plain.global g)) items typed.1
+  items_away slots names (plain.function kind text void_word parameters body ∷ items) typed =
+      let of : Names = record { slots = slots; variables = parameter_variables parameters } in
+      both (body_uses of body) (items_uses slots items)
+      (body_away (names_inside names kind text parameters) of body typed.0.inside)
+      (items_away slots (with_item names (plain.function kind text void_word parameters body)) items typed.1)
 
   found_away : (core : ℕ) (us : List Use) → Away us → list_any (is_send core) us ≡ true → (core < cores)
       × (core ≡ own → ⊥)
@@ -208,5 +154,5 @@ module _ (cores own : ℕ) where
 
   pub sends_away : (items : List PlainItem) → IsValid items cores own → (core : ℕ) → sends_to core items ≡ true
       → (core < cores) × (core ≡ own → ⊥)
-  sends_away items valid core is = found_away core (program_uses items) (items_away (layout_of items) given 0 items
-      (in_items cores own items valid)) is
+  sends_away items valid core is = found_away core (program_uses items) (items_away (layout_of items) given items
+      (typed_of cores own items valid).each) is

@@ -5,7 +5,7 @@ use denote.Hole.Carrier.{hidden}
 use Rattle.std.specs.declared.boxed.Box.{Box}
 use Rattle.std.specs.Global.{Global}
 use Rattle.c_tree.specs.declared.tokens.Token.{Token}
-use Rattle.c_tree.specs.declared.expressions.Expr.{Expr, Chain', Unary', Element', Paren', Number, Name}
+use Rattle.c_tree.specs.declared.expressions.Expr.{Expr, Chain'}
 use Rattle.c_tree.specs.declared.expressions.Expr.TheViews.{Chain}
 use Rattle.c_tree.specs.declared.expressions.Expr.TheBlock.{hidden-the_row-Step-0}
 use Rattle.c_tree.specs.declared.expressions.Step.{Step}

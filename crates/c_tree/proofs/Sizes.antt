@@ -14,7 +14,7 @@ use Rattle.c_tree.specs.declared.statements.Head.{Head}
 use Rattle.c_tree.specs.declared.statements.Head.TheVariants as head
 use Rattle.c_tree.specs.declared.statements.Right.{Right}
 use Rattle.c_tree.specs.declared.statements.Right.TheVariants as right
-use Rattle.c_tree.specs.declared.statements.Stmt.{Stmt, Declare, Set, SetElement, Call, Send, If', Loop', Break, Continue, Return, Inner'}
+use Rattle.c_tree.specs.declared.statements.Stmt.{Stmt, Declare, Set, SetElement, Call, Send, If', Loop', Return, Inner'}
 use Rattle.c_tree.specs.declared.statements.Stmt.TheBlock.{Held-Stmt-If-1, None', Some', Row_of-Stmt, end_of-Stmt, more_of-Stmt, Row_of-Arm, end_of-Arm, more_of-Arm}
 use Rattle.c_tree.specs.declared.units.Function.{Function}
 use Rattle.c_tree.specs.declared.units.Item.{Item}

@@ -12,5 +12,6 @@ pub mod Reading
 pub mod Sizes
 pub mod Small
 pub mod Tokens
+pub mod Typed
 pub mod Valid
 pub mod Weight

@@ -19,8 +19,8 @@ use Rattle.single_path.specs.PartWords.{in_arm, in_loop, in_counted}
 use Rattle.single_path.specs.Counted.{start_of}
 use Rattle.single_path.specs.Made.{is_counted, counted_part, made_counted, made_loop, made_iteration, made, made_action, made_branches, made_assignment, made_arm, made_otherwise, made_after, any_exit, by_continue, by_return, actions_exit, branches_exit, is_no_branch, is_no_action, ends}
 use Rattle.single_path.specs.Widths.{action_words, words, branches_words}
-use Rattle.single_path.proofs.Fits.{FitsAction, Fits, FitsBranches}
-use Rattle.single_path.proofs.Keeping.{actions_fit}
+use Rattle.single_path.proofs.Sound.{sound, SoundAction, AllSound, SoundBranches}
+use Rattle.single_path.proofs.Keeping.{actions_stay}
 use Rattle.single_path.proofs.Exiting.{on_only, no_continue, action_avoids, actions_avoid}
 use Rattle.single_path.proofs.Frames.{Order, Still}
 use Rattle.single_path.proofs.Idle.{Quiet, Dead, order_arm, order_loop, order_counted, dead, dead_branches}
@@ -87,65 +87,66 @@ mutual
   live_action : (Fit : ℕ → ℕ → Type 0) (gc : resolved.Serves) (g : Serves) → Serving Fit gc g
       → (n : ℕ) (a : PlainAction) (inside : Bool) (known : Option Start)
       (p : PartWords) (s : State) (l : values.State) → Order n p → Nest inside p → action_words a ≤ n
-      → FitsAction Fit inside a → Begins known l → Live p s → Agrees n s l
+      → SoundAction Fit inside a → Begins known l → Live p s → Agrees n s l
       → Acted a n p s (resolved.action_done gc a l) (stmts_done g (made_action known p a) s)
-  live_action Fit gc g serving n (sets a) inside known p s l o nest within fits begins live h =
+  live_action Fit gc g serving n (sets a) inside known p s l o nest within so begins live h =
       set_acted (sets a) n p s (stmt_done g (made_assignment p.own a) s) (resolved.assignment_done a l) refl o live
       (assignment_set g n p.own a s l live.own h within)
-  live_action Fit gc g serving n (calls k args None) inside known p s l o nest within fits begins live h =
+  live_action Fit gc g serving n (calls k args None) inside known p s l o nest within so begins live h =
       set_acted (calls k args None) n p s (stmt_done g (tree.calls p.own k args None) s)
       (resolved.outcome_done None l (gc k (resolved.args_worth args l) l.world)) refl o live
-      (nothing_set Fit gc g serving n p.own k args s l live.own h (omega (arith, within)) fits)
-  live_action Fit gc g serving n (calls k args (Some (to_level at))) inside known p s l o nest within fits
+      (nothing_set Fit gc g serving n p.own k args s l live.own h (omega (arith, within)) so.0)
+  live_action Fit gc g serving n (calls k args (Some (to_level at))) inside known p s l o nest within so
       begins live h =
       set_acted (calls k args (Some (to_level at))) n p s (stmt_done g (tree.calls p.own k args (Some at)) s)
       (resolved.outcome_done (Some (to_level at)) l (gc k (resolved.args_worth args l) l.world)) refl o live
-      (level_set Fit gc g serving n p.own k args at s l live.own h (omega (arith, within)) (omega (arith, within)) fits)
-  live_action Fit gc g serving n (calls k args (Some (actions.to_cell cell))) inside known p s l o nest within fits
+      (level_set Fit gc g serving n p.own k args at s l live.own h (omega (arith, within)) (omega (arith, within))
+      so.0)
+  live_action Fit gc g serving n (calls k args (Some (actions.to_cell cell))) inside known p s l o nest within so
       begins live h =
       let given = given_set Fit gc g serving n p k args (actions.to_cell cell) s l o live.own h (omega (arith, within))
-      (omega arith) fits in
+      (omega arith) so.0 in
       low_acted (calls k args (Some (actions.to_cell cell))) n p s
       (stmts_done g (made_action known p (calls k args (Some (actions.to_cell cell)))) s)
       (resolved.outcome_done (Some (actions.to_cell cell)) l (gc k (resolved.args_worth args l) l.world)) refl o live
       given.0 given.1
   live_action Fit gc g serving n (calls k args (Some (actions.to_array array index))) inside known p s l o nest within
-      fits begins live h =
+      so begins live h =
       let given = given_set Fit gc g serving n p k args (actions.to_array array index) s l o live.own h
-      (omega (arith, within)) (omega (arith, within)) fits in
+      (omega (arith, within)) (omega (arith, within)) so.0 in
       low_acted (calls k args (Some (actions.to_array array index))) n p s
       (stmts_done g (made_action known p (calls k args (Some (actions.to_array array index)))) s)
       (resolved.outcome_done (Some (actions.to_array array index)) l (gc k (resolved.args_worth args l) l.world)) refl o
       live given.0 given.1
-  live_action Fit gc g serving n (transfers core source target count) inside known p s l o nest within fits
+  live_action Fit gc g serving n (transfers core source target count) inside known p s l o nest within so
       begins live h =
       set_acted (transfers core source target count) n p s
       (stmt_done g (tree.transfers p.own core source target count) s)
       (resolved.transfer_done core source target count l) refl o live (sent g n p.own core source target count s l
       live.own h within)
-  live_action Fit gc g serving n (chooses branches otherwise) inside known p s l o nest within fits begins live h =
+  live_action Fit gc g serving n (chooses branches otherwise) inside known p s l o nest within so begins live h =
       let arms = made_branches p branches (is_no_action otherwise) (λ q. made None q otherwise) in
       let d = resolved.branches_done gc branches (resolved.actions_done gc otherwise) l in
       let went = live_branches Fit gc g serving n branches inside (is_no_action otherwise) (λ q. made None q otherwise)
       (resolved.actions_done gc otherwise) (record {
         acts = λ q t m o' nest' live' h'. live_all Fit gc g serving n otherwise inside None q t m o' nest'
-            (omega (arith, within)) fits.1 tt live' h';
+            (omega (arith, within)) so.1 tt live' h';
         idles = λ q t. dead g serving.quiet n otherwise None q t;
         empty = λ m. nothing_done gc otherwise m;
-      }) p s l o nest (omega (arith, within)) fits.0 live h in
+      }) p s l o nest (omega (arith, within)) so.0 live h in
       let exits = branches_exit any_exit branches || actions_exit any_exit otherwise in
       subst (λ u. Acted (chooses branches otherwise) n p s d u) (sym (joined_done g arms (made_after p exits) s))
       (after_acted (chooses branches otherwise) g n p s d (stmts_done g arms s) exits refl o
       (λ none. on_only d.way (action_avoids gc any_exit (chooses branches otherwise) l none)) went)
-  live_action Fit gc g serving n (iterations most condition body step) inside known p s l o nest within fits
+  live_action Fit gc g serving n (iterations most condition body step) inside known p s l o nest within so
       begins live h =
       by (is_counted known most condition body step) refl
       (λ none t m live' h'. live_all Fit gc g serving n body inside None p t m o nest (omega (arith, within))
-      (actions_fit Fit inside body none fits) tt live' h')
+      (actions_stay (sound Fit) inside body none so.1) tt live' h')
       (λ t m live' h'. live_all Fit gc g serving n body true None (in_counted p) t m (order_counted n p o)
-      (nest_loop n p o) (omega (arith, within)) fits tt live' h')
+      (nest_loop n p o) (omega (arith, within)) so.1 tt live' h')
       (λ t m live' h'. live_all Fit gc g serving n body true None (in_loop p) t m (order_loop n p o) (nest_loop n p o)
-      (omega (arith, within)) fits tt live' h')
+      (omega (arith, within)) so.1 tt live' h')
     where
       iteration : PlainStmts
       iteration = made_iteration p condition (actions_exit by_continue body) (made None (in_loop p) body) step
@@ -177,48 +178,49 @@ mutual
             acts = behind;
             idles = λ t. dead g serving.quiet n body None (in_loop p) t (order_loop n p o);
           }) live h
-  live_action Fit gc g serving n breaks inside known p s l o nest within fits begins live h =
-      broken_acted gc g n p s l o (nest fits) live h
-  live_action Fit gc g serving n continues inside known p s l o nest within fits begins live h =
-      continued_acted gc g n p s l o (nest fits) live h
-  live_action Fit gc g serving n (returns e) inside known p s l o nest within fits begins live h =
+  live_action Fit gc g serving n breaks inside known p s l o nest within so begins live h =
+      broken_acted gc g n p s l o (nest so) live h
+  live_action Fit gc g serving n continues inside known p s l o nest within so begins live h =
+      continued_acted gc g n p s l o (nest so) live h
+  live_action Fit gc g serving n (returns e) inside known p s l o nest within so begins live h =
       returned_acted gc g n p e s l o live h within
 
   pub live_all : (Fit : ℕ → ℕ → Type 0) (gc : resolved.Serves) (g : Serves) → Serving Fit gc g
       → (n : ℕ) (all : PlainActions) (inside : Bool) (known : Option Start)
-      (p : PartWords) (s : State) (l : values.State) → Order n p → Nest inside p → words all ≤ n → Fits Fit inside all
+      (p : PartWords) (s : State) (l : values.State) → Order n p → Nest inside p → words all ≤ n
+      → AllSound Fit inside all
       → Begins known l → Live p s → Agrees n s l
       → Went n p s (resolved.actions_done gc all l) (stmts_done g (made known p all) s)
-  live_all Fit gc g serving n no_action inside known p s l o nest within fits begins live h = went_here n p s l live h
-  live_all Fit gc g serving n (action a rest) inside known p s l o nest within fits begins live h =
+  live_all Fit gc g serving n no_action inside known p s l o nest within so begins live h = went_here n p s l live h
+  live_all Fit gc g serving n (action a rest) inside known p s l o nest within so begins live h =
       let d = resolved.action_done gc a l in
       let t = stmts_done g (made_action known p a) s in
-      let acted = live_action Fit gc g serving n a inside known p s l o nest (omega (arith, within)) fits.0
+      let acted = live_action Fit gc g serving n a inside known p s l o nest (omega (arith, within)) so.0
       begins live h in
       subst (λ u. Went n p s (then_done (resolved.actions_done gc rest) d) u)
       (sym (joined_done g (made_action known p a) (if ends a then no_stmt else made (start_of a) p rest) s))
       (next_went g serving.quiet gc n p a rest s t d.state o
       (λ live' h'. live_all Fit gc g serving n rest inside (start_of a) p t d.state o nest (omega (arith, within))
-      fits.1 (begins_after gc a l) live' h') d.way acted)
+      so.1 (begins_after gc a l) live' h') d.way acted)
 
   live_branches : (Fit : ℕ → ℕ → Type 0) (gc : resolved.Serves) (g : Serves) → Serving Fit gc g
       → (n : ℕ) (bs : PlainBranches) (inside nothing : Bool)
       (otherwise : PartWords → PlainStmts) (meant : values.State → Done) → Otherwise g n inside nothing otherwise meant
       → (p : PartWords) (s : State)
-      (l : values.State) → Order n p → Nest inside p → branches_words bs ≤ n → FitsBranches Fit inside bs
+      (l : values.State) → Order n p → Nest inside p → branches_words bs ≤ n → SoundBranches Fit inside bs
       → Live p s → Agrees n s l
       → Went n p s (resolved.branches_done gc bs meant l) (stmts_done g (made_branches p bs nothing otherwise) s)
-  live_branches Fit gc g serving n no_branch inside nothing otherwise meant last p s l o nest within fits live h =
+  live_branches Fit gc g serving n no_branch inside nothing otherwise meant last p s l o nest within so live h =
       last.acts p s l o nest live h
   live_branches Fit gc g serving n (branch condition body rest) inside nothing otherwise meant last p s l o nest
-      within fits live h =
+      within so live h =
       let on : actions_exit any_exit body ≡ false → (resolved.actions_done gc body l).way ≡ way.On = λ none.
       on_only (resolved.actions_done gc body l).way (actions_avoid gc any_exit body l none) in
       by on (resolved.holds condition l) (ap is_true (worth_same n condition s l h (omega (arith, within))))
       (λ t live' h'. live_all Fit gc g serving n body inside None (in_arm p) t l (order_arm n p o) nest
-      (omega (arith, within)) fits.0 tt live' h')
+      (omega (arith, within)) so.1 tt live' h')
       (λ t live' h'. live_branches Fit gc g serving n rest inside nothing otherwise meant last (in_arm p) t l
-      (order_arm n p o) nest (omega (arith, within)) fits.1 live' h')
+      (order_arm n p o) nest (omega (arith, within)) so.2 live' h')
     where
       arm : PlainStmts
       arm = made None (in_arm p) body

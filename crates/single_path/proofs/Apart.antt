@@ -1,55 +1,32 @@
 -- In the tree of a valid program no private variable stands inside a private array: a name outside functions is
 -- declared once, and so it stands for its own slot and is read and set as what it is declared as.
 use Rattle.std.proofs.Common.{◌≡◌, ◌≢◌, ℕ, ◌+◌, Bool, true, false, if◌then◌else◌, List, [], ◌∷◌, ◌++◌, length, Option, Some, None, bytes_eq, refl, ap, sym, ◌∙◌, arith, subst, true≢false}
-use Rattle.std.specs.Prelude.{IsTrue, ◌&&◌, nat_lt, is_some, codes, sum_by, ◌==◌, ◌||◌}
+use Rattle.std.specs.Prelude.{is_some, codes}
 use Rattle.std.specs.List.{AllByRecursion as Each}
 use Rattle.std.specs.Option.{option_or, option_map}
 use Rattle.std.proofs.lemmas.Slice.Eq.{bytes_eq-Decides}
-use Rattle.c_tree.specs.declared.checks.CheckFault.TheVariants as fault
 use Rattle.c_tree.specs.declared.checks.Meaning.{Meaning}
 use Rattle.c_tree.specs.declared.checks.Meaning.TheVariants as means
 use Rattle.c_tree.specs.declared.layout.Slot.{Slot}
 use Rattle.c_tree.specs.declared.units.Global.{Global}
 use Rattle.c_tree.specs.declared.units.Length.{Length}
-use Rattle.c_tree.specs.Checks.{twice_faults}
 use Rattle.c_tree.specs.Layout.{slot_of, given_slots, slots_from, layout_of}
-use Rattle.c_tree.specs.Least.{where_so}
-use Rattle.c_tree.specs.Names.{Found, Named, found, is_declared, declared, given}
+use Rattle.c_tree.specs.Names.{Found, Named, found, declared, given}
 use Rattle.c_tree.specs.Plain.{PlainItem, global, function}
-use Rattle.c_tree.specs.Sizes.{kind_size, item_size}
-use Rattle.c_tree.specs.Valid.{IsValid, has_none, words_of, means_of, function_means, global_faults, item_faults, with_item, items_faults, item_words, end_faults}
+use Rattle.c_tree.specs.Valid.{IsValid, means_of, function_means, with_item, item_words}
 use Rattle.sp_tree.specs.Uses.{are_apart, uses_of}
 use Rattle.c_meaning.specs.Resolve.{resolved_items, parameters_in}
 use Rattle.c_meaning.specs.Scope.{outside, among_slots}
 use Rattle.single_path.specs.Single.{with_calls}
 use Rattle.single_path.proofs.ArrayWords.{is_array, in_array, Kept, kept_apart, if_past, SameFrom, variable_slot, array_slot}
 use Rattle.single_path.proofs.Checked.{function_checked}
-use Rattle.single_path.proofs.OpenNames.{Keeps, found_same, found_before, keeps_function}
-use Rattle.single_path.proofs.Doing.{Do, functions_do}
+use Rattle.single_path.proofs.OpenNames.{Keeps, found_same, found_before, still_found, keeps_function}
+use Rattle.single_path.proofs.Doing.{AllDo, functions_do}
 use Rattle.single_path.proofs.Resolving.{Outside, CellRead, ArrayRead}
-use Rattle.c_tree.proofs.Faultless.{none_left, none_right, not_so}
-use Rattle.single_path.proofs.Valid.{found_last}
+use Rattle.c_tree.specs.Typed.{ItemsTyped}
+use Rattle.c_tree.proofs.Typing.{typed_of}
 
 -- ---- names outside functions
-
--- a name that is declared without a fault is new
-declared_once : (names : List Named) (at : ℕ) (text : List ℕ) → IsTrue (has_none (twice_faults 0 names at text))
-    → found text names ≡ None
-declared_once names at text none = by (found text names) (not_so (is_declared text 0 names) at fault.Twice none)
-  where
-    by : (f : Option Meaning) → is_some f ≡ false → f ≡ None
-    by None new = refl
-    by (Some m) new = absurd (cc)
-
--- a name that is known is known after each declaration
-still_found : (names : List Named) (name text : List ℕ) (m : Meaning) → is_some (found text names) ≡ true
-    → is_some (found text (declared names name m)) ≡ true
-still_found names name text m known =
-    ap is_some (found_last text names (record { name = name; means = m })) ∙ by (bytes_eq name text)
-  where
-    by : (same : Bool) → is_some (if same then Some m else found text names) ≡ true
-    by true = refl
-    by false = known
 
 -- a name that is not known after a declaration is another, and was not known before
 not_found : (names : List Named) (name text : List ℕ) (m : Meaning) → found text (declared names name m) ≡ None
@@ -60,52 +37,30 @@ not_found names name text m new = by (bytes_eq name text) refl
     by true same = let is : Some m ≡ None = sym (found_same names name text m same) ∙ new in absurd (cc)
     by false other = (other, found_before names name text m None new other)
 
--- the name of a variable or an array without a fault is new
-global_new : (names : List Named) (at : ℕ) (g : Global) → IsTrue (has_none (global_faults names at g))
-    → found g.name names ≡ None
-global_new names at g none =
-    let name_at = at + (if g.scratch then 1 else 0) + kind_size g.kind in
-    declared_once names name_at g.name
-    (none_left (twice_faults 0 names name_at g.name)
-    (where_so (g.scratch && nat_lt 0 (length g.initial)) name_at fault.WrongType
-    ++ where_so (words_of g == 0 || nat_lt (words_of g) (length g.initial)) name_at fault.Data) none)
-
 -- no later item has a name that is known: after the known ones it stands only for what is given
-given_last : (names : List Named) (text : List ℕ) → is_some (found text names) ≡ true
-    → (private scratch cores own at : ℕ) (items : List PlainItem)
-    → IsTrue (has_none (items_faults cores own names at items)) → among_slots text (slots_from private scratch items)
-    ≡ among_slots text given_slots
-given_last names text known private scratch cores own at [] none = refl
-given_last names text known private scratch cores own at (global g ∷ items) none =
+given_last : (cores own : ℕ) (names : List Named) (text : List ℕ) → is_some (found text names) ≡ true
+    → (private scratch : ℕ) (items : List PlainItem) → ItemsTyped cores own names items
+    → among_slots text (slots_from private scratch items) ≡ among_slots text given_slots
+given_last cores own names text known private scratch [] typed = refl
+given_last cores own names text known private scratch (global g ∷ items) typed =
     by (bytes_eq g.name text) refl
-    (given_last (declared names g.name (means_of g)) text (still_found names g.name text (means_of g) known)
-    (private + item_words false (global g))
-    (scratch + item_words true (global g)) cores own (at + item_size (global g)) items
-    (none_right (global_faults names at g) (items_faults cores own (declared names g.name (means_of g))
-    (at + item_size (global g)) items) none))
+    (given_last cores own (declared names g.name (means_of g)) text (still_found names g.name text (means_of g) known)
+    (private + item_words false (global g)) (scratch + item_words true (global g)) items typed.1)
   where
     later : List PlainItem → List Slot
     later = slots_from (private + item_words false (global g)) (scratch + item_words true (global g))
-
-    once : found g.name names ≡ None
-    once = global_new names at g
-        (none_left (global_faults names at g) (items_faults cores own (declared names g.name (means_of g))
-        (at + item_size (global g)) items) none)
 
     by : (same : Bool) → bytes_eq g.name text ≡ same → among_slots text (later items) ≡ among_slots text given_slots
         → (if same then outside (slot_of private scratch g) else among_slots text (later items))
         ≡ among_slots text given_slots
     by true same only =
         absurd (true≢false (sym known ∙ ap (λ t. is_some (found t names)) (sym ((bytes_eq-Decides g.name text).0 same))
-        ∙ ap is_some once))
+        ∙ ap is_some typed.0.new))
     by false other only = only
-given_last names text known private scratch cores own at (function kind its_name void_word ps body ∷ items) none =
+given_last cores own names text known private scratch (function kind its_name void_word ps body ∷ items) typed =
     let f = function kind its_name void_word ps body in
-    given_last (with_item names f) text (still_found names its_name text (function_means false kind ps) known)
-    (private + item_words false f)
-    (scratch + item_words true f) cores own (at + item_size f) items
-    (none_right (item_faults cores own names at f) (items_faults cores own (with_item names f) (at + item_size f) items)
-    none)
+    given_last cores own (with_item names f) text (still_found names its_name text (function_means false kind ps) known)
+    (private + item_words false f) (scratch + item_words true f) items typed.1
 
 -- ---- what is known before some of a program's items
 
@@ -225,9 +180,8 @@ given_kept all text =
       ((λ private word from below. absurd (cc)), tt),
     )
 
-laid_first : (items : List PlainItem) (cores own : ℕ) → IsTrue (has_none (items_faults cores own given 0 items))
-    → Laid items given 4 0 items
-laid_first items cores own none = record {
+laid_first : (items : List PlainItem) (cores own : ℕ) → ItemsTyped cores own given items → Laid items given 4 0 items
+laid_first items cores own typed = record {
   keeps = record {
     scalars = λ text is. absurd (no_scalar (bytes_eq (codes "comm") text) (bytes_eq (codes "shared") text) is);
     arrays = λ text is. let kept = array text (ap is_some is) in (kept, kept);
@@ -251,40 +205,31 @@ laid_first items cores own none = record {
     array : (text : List ℕ) → is_some (found text given) ≡ true → Outside (ArrayRead (Kept items)) (among_slots text
         (layout_of items))
     array text known = subst (Outside (ArrayRead (Kept items)))
-        (sym (given_last given text known 4 0 cores own 0 items none)) (given_kept items text)
+        (sym (given_last cores own given text known 4 0 items typed)) (given_kept items text)
 
 -- ---- programs
 
-items_kept : (all : List PlainItem) (names : List Named) (private scratch : ℕ) (fs : List (List ℕ)) (cores own at : ℕ)
-    (items : List PlainItem)
-    → Laid all names private scratch items → IsTrue (has_none (items_faults cores own names at items))
-    → Each (Do (Kept all)) (resolved_items (layout_of all) fs items)
-items_kept all names private scratch fs cores own at [] laid none = tt
-items_kept all names private scratch fs cores own at (global g ∷ items) laid none =
-    let here = global_faults names at g in
-    let behind = items_faults cores own (declared names g.name (means_of g)) (at + item_size (global g)) items in
-    items_kept all (declared names g.name (means_of g)) (private + item_words false (global g))
-    (scratch + item_words true (global g)) fs cores own
-    (at + item_size (global g)) items
-    (laid_global all names private scratch g items (global_new names at g (none_left here behind none)) laid)
-    (none_right here behind none)
-items_kept all names private scratch fs cores own at (function kind name void_word ps body ∷ items) laid none =
-    let f = function kind name void_word ps body in
-    let here = item_faults cores own names at f in
-    let behind = items_faults cores own (with_item names f) (at + item_size f) items in (
-      function_checked (Kept all) names (layout_of all) fs cores own at kind name void_word ps body laid.keeps
-          (none_left here behind none),
-      items_kept all (with_item names f) (private + item_words false f) (scratch + item_words true f) (fs ++ name ∷ [])
-          cores own (at + item_size f) items
-          (laid_function all names private scratch f items name (length ps) (is_some kind) refl laid)
-          (none_right here behind none),
+items_kept : (cores own : ℕ) (all : List PlainItem) (names : List Named) (private scratch : ℕ) (fs : List (List ℕ))
+    (items : List PlainItem) → Laid all names private scratch items → ItemsTyped cores own names items
+    → Each (AllDo (Kept all)) (resolved_items (layout_of all) fs items)
+items_kept cores own all names private scratch fs [] laid typed = tt
+items_kept cores own all names private scratch fs (global g ∷ items) laid typed =
+    items_kept cores own all (declared names g.name (means_of g)) (private + item_words false (global g))
+    (scratch + item_words true (global g)) fs items (laid_global all names private scratch g items typed.0.new laid)
+    typed.1
+items_kept cores own all names private scratch fs (function kind name void_word ps body ∷ items) laid typed =
+    let f = function kind name void_word ps body in (
+      function_checked (Kept all) cores own names (layout_of all) fs kind name ps body laid.keeps typed.0,
+      items_kept cores own all (with_item names f) (private + item_words false f) (scratch + item_words true f)
+          (fs ++ name ∷ []) items
+          (laid_function all names private scratch f items name (length ps) (is_some kind) refl laid) typed.1,
     )
 
 pub valid_apart : (items : List PlainItem) (cores own : ℕ) → IsValid items cores own
     → are_apart (uses_of (with_calls items)) ≡ true
 valid_apart items cores own valid =
-    let none = none_left (items_faults cores own given 0 items) (end_faults (sum_by item_size items) items) valid in
+    let typed = (typed_of cores own items valid).each in
     let all = uses_of (with_calls items) in
     let kept = functions_do (Kept items) (parameters_in items) (resolved_items (layout_of items) [] items)
-    (items_kept items given 4 0 [] cores own 0 items (laid_first items cores own none) none) in
+    (items_kept cores own items given 4 0 [] items (laid_first items cores own typed) typed) in
     kept_apart items all all kept kept

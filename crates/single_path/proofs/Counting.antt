@@ -10,7 +10,7 @@ use Rattle.tc_word.specs.Word.{is_less}
 use Rattle.c_world.specs.Numbers.{flag, is_true, sum_of}
 use Rattle.c_world.specs.World.{with_overrun}
 use Rattle.sp_tree.specs.Operators.{binary_value}
-use Rattle.sp_tree.specs.Plain.{PlainSp, constant, frame_word, cell_word, array_word, before_one, between_two}
+use Rattle.sp_tree.specs.Plain.{PlainSp, constant, frame_word, between_two}
 use Rattle.sp_tree.specs.declared.operators.SpBinary.{SpBinary}
 use Rattle.sp_tree.specs.declared.operators.SpBinary.TheVariants as binary
 use Rattle.sp_tree.specs.Statements.{PlainStmts, joined}

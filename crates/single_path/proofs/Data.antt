@@ -9,17 +9,16 @@ use Rattle.c_tree.specs.Valid.{IsValid}
 use Rattle.c_tree.specs.Weight.{item_weight, items_weight}
 use Rattle.sp_tree.specs.Formed.{data_formed}
 use Rattle.c_meaning.specs.Resolve.{resolved_items, parameters_in}
-use Rattle.c_tree.proofs.Faultless.{private_fits}
+use Rattle.c_tree.proofs.Typing.{typed_of}
 use Rattle.c_meaning.proofs.Fits.{initial_fits, input_within}
 use Rattle.single_path.specs.Single.{with_calls}
-use Rattle.single_path.proofs.Ends.{ends_of}
 use Rattle.single_path.proofs.Formed.{as_many, made_length}
 
 pub data_is_formed : (cores own : ℕ) (items : List PlainItem) → IsValid items cores own → data_formed (with_calls items)
     ≡ true
 data_is_formed cores own items valid =
     let input = input_within 4 items (omega arith) in
-    let private = private_fits cores own items valid in
+    let private = (typed_of cores own items valid).private in
     and_from _ _ (le-leb (4 + length (initial_of items)) 49152 (omega (arith, initial_fits cores own items valid)))
     (and_from _ _ (le-leb 4 (input_of items).at input.0)
     (le-leb ((input_of items).at + (input_of items).room) 49152 (omega (arith, input.1, private))))
@@ -41,5 +40,5 @@ functions_are_few cores own items valid =
     let bodies = resolved_items (layout_of items) [] items in
     let same = as_many (layout_of items) [] items in
     let weighs = functions_weigh (layout_of items) [] items in
-    let ends = ends_of cores own items valid in
-    omega (arith, weighs, made_length (parameters_in items) bodies same, ends.light)
+    let light = (typed_of cores own items valid).light in
+    omega (arith, weighs, made_length (parameters_in items) bodies same, light)

@@ -17,8 +17,9 @@ use Rattle.single_path.specs.PartWords.{in_arm, in_loop, outermost, both, withou
 use Rattle.single_path.specs.Counted.{start_of}
 use Rattle.single_path.specs.Made.{is_zero, made_target, made_assignment, made_step, made_call, made_result, made_return, ends, is_no_action, is_no_branch, made_arm, made_otherwise, made_on, made_after, made_behind, made_again, any_exit, by_continue, by_return, actions_exit, branches_exit, made_iteration, made_loop, is_counted, counted_part, made_begun, made_counted, made_action, made, made_branches}
 use Rattle.single_path.specs.Single.{variables, begun_mask, made_functions}
+use Rattle.single_path.proofs.Acts.{Rules, Gives, Steps, Does, Do, AnyDo}
 
--- ---- actions whose uses all have a property
+-- ---- actions of which all uses have a property
 
 abbrev pub ExprDoes : (Use → Type 0) → PlainSp → Type 0
 ExprDoes P (constant n) = ⊤
@@ -33,33 +34,17 @@ TargetDoes P (to_level at) = ⊤
 TargetDoes P (to_cell cell) = P (writes_cell cell)
 TargetDoes P (to_array array index) = P (writes_array array) × ExprDoes P index
 
-abbrev pub ResultDoes : (Use → Type 0) → Option PlainTarget → Type 0
-ResultDoes P None = ⊤
-ResultDoes P (Some target) = TargetDoes P target
+abbrev pub uses : (Use → Type 0) → Rules
+uses P = record {
+  Expr = ExprDoes P;
+  Target = TargetDoes P;
+  Call = λ number arguments. ⊤;
+  Send = λ core. P (sends_to core);
+}
 
-abbrev pub StepDoes : (Use → Type 0) → Option PlainAssignment → Type 0
-StepDoes P None = ⊤
-StepDoes P (Some a) = TargetDoes P a.target × ExprDoes P a.value
-
-abbrev mutual
-  pub ActionDoes : (Use → Type 0) → PlainAction → Type 0
-  ActionDoes P (sets a) = TargetDoes P a.target × ExprDoes P a.value
-  ActionDoes P (calls k args result) = Each (ExprDoes P) args × ResultDoes P result
-  ActionDoes P (transfers core source target count) =
-      P (sends_to core) × ExprDoes P source × ExprDoes P target × ExprDoes P count
-  ActionDoes P (chooses branches otherwise) = BranchesDo P branches × Do P otherwise
-  ActionDoes P (iterations most condition body step) = ExprDoes P condition × Do P body × StepDoes P step
-  ActionDoes P breaks = ⊤
-  ActionDoes P continues = ⊤
-  ActionDoes P (returns e) = ExprDoes P e
-
-  pub Do : (Use → Type 0) → PlainActions → Type 0
-  Do P no_action = ⊤
-  Do P (action a rest) = ActionDoes P a × Do P rest
-
-  pub BranchesDo : (Use → Type 0) → PlainBranches → Type 0
-  BranchesDo P no_branch = ⊤
-  BranchesDo P (branch condition body rest) = ExprDoes P condition × Do P body × BranchesDo P rest
+-- wherever they stand
+abbrev pub AllDo : (Use → Type 0) → PlainActions → Type 0
+AllDo P = Do (uses P) true
 
 -- ---- the uses of expressions, arguments and targets
 
@@ -117,13 +102,13 @@ assignment_do P mask a target value =
     (each-append P (target_uses (made_target a.target)) (expr_uses a.value) (target_each P a.target target)
     (expr_each P a.value value))
 
-step_do : (P : Use → Type 0) (mask : ℕ) (step : Option PlainAssignment) → StepDoes P step
+step_do : (P : Use → Type 0) (mask : ℕ) (step : Option PlainAssignment) → Steps (TargetDoes P) (ExprDoes P) step
     → StmtsDo P (made_step mask step)
 step_do P mask None does = tt
 step_do P mask (Some a) does = assignment_do P mask a does.0 does.1
 
 call_do : (P : Use → Type 0) (p : PartWords) (k : ℕ) (args : List PlainSp) (result : Option PlainTarget)
-    → Each (ExprDoes P) args → ResultDoes P result
+    → Each (ExprDoes P) args → Gives (TargetDoes P) result
     → StmtsDo P (made_call p k args result)
 call_do P p k args None given does = only P (tree.calls p.own k args None) (args_each P args given)
 call_do P p k args (Some (to_level at)) given does = only P (tree.calls p.own k args (Some at)) (args_each P args given)
@@ -211,7 +196,8 @@ arm_does P p condition arm exits nothing rest test inside more =
 
 iteration_does : (P : Use → Type 0) (p : PartWords) (condition : PlainSp) (exits : Bool) (body : PlainStmts)
     (step : Option PlainAssignment)
-    → ExprDoes P condition → StmtsDo P body → StepDoes P step → StmtsDo P (made_iteration p condition exits body step)
+    → ExprDoes P condition → StmtsDo P body → Steps (TargetDoes P) (ExprDoes P) step
+    → StmtsDo P (made_iteration p condition exits body step)
 iteration_does P p condition exits body step test inside stepped =
     let behind = joined (made_again p exits) (made_step p.free step) in
     mask_then P p.free (where_so p.free condition) (joined body behind) (so_does P p.free condition test)
@@ -240,7 +226,7 @@ begun_does P p false = tt
 
 counted_does : (P : Use → Type 0) (p : PartWords) (most : ℕ) (resumes : Bool) (body : PlainStmts)
     (step : Option PlainAssignment) → StmtsDo P body
-    → StepDoes P step → StmtsDo P (made_counted p most resumes body step)
+    → Steps (TargetDoes P) (ExprDoes P) step → StmtsDo P (made_counted p most resumes body step)
 counted_does P p most resumes body step inside stepped =
     let iteration = joined body (made_step p.own step) in
     only P (tree.iterations most (joined (made_begun p resumes) iteration))
@@ -256,10 +242,10 @@ continued_does P p false = tt
 -- ---- all actions
 
 mutual
-  action_does : (P : Use → Type 0) (known : Option Start) (p : PartWords) (a : PlainAction) → ActionDoes P a
+  action_does : (P : Use → Type 0) (known : Option Start) (p : PartWords) (a : PlainAction) → Does (uses P) true a
       → StmtsDo P (made_action known p a)
   action_does P known p (sets a) does = assignment_do P p.own a does.0 does.1
-  action_does P known p (calls k args result) does = call_do P p k args result does.0 does.1
+  action_does P known p (calls k args result) does = call_do P p k args result does.1 does.2
   action_does P known p (transfers core source target count) does =
       only P (tree.transfers p.own core source target count) (
         does.0,
@@ -288,7 +274,7 @@ mutual
   action_does P known p continues does = continued_does P p p.counted
   action_does P known p (returns e) does = return_does P p e does
 
-  made_does : (P : Use → Type 0) (known : Option Start) (p : PartWords) (actions : PlainActions) → Do P actions
+  made_does : (P : Use → Type 0) (known : Option Start) (p : PartWords) (actions : PlainActions) → AllDo P actions
       → StmtsDo P (made known p actions)
   made_does P known p no_action does = tt
   made_does P known p (action a rest) does =
@@ -297,7 +283,7 @@ mutual
       (unless_do P (ends a) (made (start_of a) p rest) (made_does P (start_of a) p rest does.1))
 
   branches_do : (P : Use → Type 0) (p : PartWords) (bs : PlainBranches) (nothing : Bool)
-      (otherwise : PartWords → PlainStmts) → BranchesDo P bs
+      (otherwise : PartWords → PlainStmts) → AnyDo (uses P) true bs
       → ((q : PartWords) → StmtsDo P (otherwise q)) → StmtsDo P (made_branches p bs nothing otherwise)
   branches_do P p no_branch nothing otherwise does last = last p
   branches_do P p (branch condition body rest) nothing otherwise does last =
@@ -307,7 +293,7 @@ mutual
 
 -- ---- functions
 
-pub functions_do : (P : Use → Type 0) (counts : List ℕ) (bodies : List PlainActions) → Each (Do P) bodies
+pub functions_do : (P : Use → Type 0) (counts : List ℕ) (bodies : List PlainActions) → Each (AllDo P) bodies
     → Each P (functions_uses (made_functions counts bodies))
 functions_do P [] bodies does = tt
 functions_do P (n ∷ counts) [] does = tt

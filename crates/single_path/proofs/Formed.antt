@@ -1,25 +1,14 @@
 -- The functions of a valid program are well formed.
-use Rattle.std.proofs.Common.{◌≡◌, ℕ, zero, suc, ◌+◌, ◌^◌, ◌<◌, ◌≤◌, Bool, true, false, List, [], ◌∷◌, ◌++◌, length, Option, is_some, slice_index, slice_index_or, refl, ap, ap₂, sym, ◌∙◌, subst, arith, lt-ltb, le-leb, eq-eqb, None}
+use Rattle.std.proofs.Common.{◌≡◌, ℕ, zero, suc, ◌+◌, ◌^◌, ◌<◌, ◌≤◌, true, false, List, [], ◌∷◌, ◌++◌, length, is_some, slice_index, slice_index_or, refl, ap, ap₂, sym, ◌∙◌, subst, arith, append_assoc, length-append, lt-ltb, le-leb, eq-eqb, None}
 use Rattle.std.proofs.lemmas.Bool.{and_from}
-use Rattle.std.proofs.lemmas.Bool.Decides.{nat_tests}
 use Rattle.std.specs.List.{AllByRecursion as Each}
-use Rattle.std.specs.Prelude.{IsTrue, nat_lt, codes}
-use Rattle.c_tree.specs.declared.checks.CheckFault.TheVariants as fault
+use Rattle.std.specs.Prelude.{codes}
 use Rattle.c_tree.specs.declared.checks.Meaning.TheVariants as means
-use Rattle.c_tree.specs.declared.checks.Within.{Within}
 use Rattle.c_tree.specs.declared.layout.Slot.{Slot}
-use Rattle.c_tree.specs.declared.statements.Kind.{Kind}
-use Rattle.c_tree.specs.declared.units.Parameter.{Parameter}
-use Rattle.c_tree.specs.Checks.{twice_faults, body_faults}
-use Rattle.c_tree.specs.Frame.{function_frame}
 use Rattle.c_tree.specs.Layout.{layout_of}
-use Rattle.c_tree.specs.Least.{where_so}
 use Rattle.c_tree.specs.Names.{Named, declared, given}
-use Rattle.c_tree.specs.Plain.{PlainStmt, PlainItem, global, function}
-use Rattle.c_tree.specs.Sizes.{list_size, item_size}
-use Rattle.c_tree.specs.Tokens.{gives_tokens}
-use Rattle.c_tree.specs.Valid.{IsValid, has_none, function_means, parameters_faults, with_parameters, named_faults, inner_faults, function_faults, item_faults, with_item, items_faults}
-use Rattle.c_tree.specs.Weight.{function_weight}
+use Rattle.c_tree.specs.Plain.{PlainItem, global, function}
+use Rattle.c_tree.specs.Valid.{IsValid, means_of, with_item}
 use Rattle.sp_tree.specs.Formed.{slots_of, function_formed, functions_formed}
 use Rattle.sp_tree.specs.Statements.{PlainFunction, no_function, masks}
 use Rattle.c_meaning.specs.Actions.{PlainActions, no_action}
@@ -29,19 +18,19 @@ use Rattle.single_path.specs.Made.{made}
 use Rattle.single_path.specs.PartWords.{outermost}
 use Rattle.single_path.specs.Single.{variables, begun_mask, made_function, made_functions, with_calls}
 use Rattle.single_path.specs.Widths as width
-use Rattle.single_path.proofs.Ends.{ends_of}
-use Rattle.single_path.proofs.Fits.{Fits}
+use Rattle.c_tree.specs.Typed.{ItemsTyped}
+use Rattle.c_tree.proofs.Typing.{typed_of}
+use Rattle.single_path.proofs.FunctionNames.{Knows, knows_more, knows_global, knows_function, array_hides}
 use Rattle.single_path.proofs.FormedParts.{MayCall, made_formed}
 use Rattle.single_path.proofs.FramesWithin.{frame_within}
-use Rattle.single_path.proofs.Functions.{Callable, outermost_order, made_at}
-use Rattle.single_path.proofs.Items.{array_hides, items_fit}
+use Rattle.single_path.proofs.Functions.{outermost_order, made_at}
+use Rattle.single_path.proofs.Sound.{Callable}
 use Rattle.single_path.proofs.MasksFormed.{below, begun_formed, more_formed}
 use Rattle.single_path.proofs.Placed.{SlotFits, layout_fits}
-use Rattle.single_path.proofs.Sound.{AllSound, body_sound}
-use Rattle.c_tree.proofs.Faultless.{none_left, none_right, not_so}
-use Rattle.single_path.proofs.Valid.{Knows, knows_more}
+use Rattle.single_path.proofs.Sound.{AllSound}
+use Rattle.single_path.proofs.SoundFunctions.{function_sound}
 
--- ---- the functions of a valid program fit
+-- ---- the functions of a valid program are sound
 
 nothing_known : (counts : List ℕ) → Knows [] [] counts
 nothing_known counts = record { earlier = λ text c gives h. absurd (cc) }
@@ -51,105 +40,63 @@ given_known counts =
     let shared = knows_more [] [] counts (codes "shared") means.Array array_hides (nothing_known counts) in
     knows_more (declared [] (codes "shared") means.Array) [] counts (codes "comm") means.Array array_hides shared
 
-pub functions_fit : (cores own : ℕ) (items : List PlainItem) → IsValid items cores own → (k : ℕ)
-    → k < length (resolved_items (layout_of items) [] items)
-    → Fits (Callable (parameters_in items) k) false (slice_index_or (resolved_items (layout_of items) [] items) k
-    no_action)
-functions_fit cores own items valid k within =
-    let counts = parameters_in items in
-    let bodies = resolved_items (layout_of items) [] items in
-    let none_before : 0 + k ≡ k = omega arith in
-    subst (λ n. Fits (Callable counts n) false (slice_index_or bodies k no_action)) none_before
-    (items_fit given [] [] counts (given_known counts) cores own 0 (layout_of items) items refl refl
-    (ends_of cores own items valid).each k within)
-
--- ---- and they are sound
-
 -- what is known of a function with so many parameters
-record FunctionSound (parameters : ℕ) (body : PlainActions) : Type 0 where
-  few : parameters ≤ 6
-  frame : (made_function parameters body).frame ≤ 120
-  sound : AllSound body
+pub record FunctionSound (Fit : ℕ → ℕ → Type 0) (parameters : ℕ) (body : PlainActions) : Type 0 where
+  pub few : parameters ≤ 6
+  pub frame : (made_function parameters body).frame ≤ 120
+  pub sound : AllSound Fit false body
 
--- how many parameters and words of a frame the checks let through
-pub record FunctionSmall (parameters : List Parameter) (body : List PlainStmt) : Type 0 where
-  pub few : length parameters ≤ 6
-  pub frame : function_frame parameters body ≤ 120
-  pub heavy : function_weight body ≤ 4096
+at_front : (front : List ℕ) (c : ℕ) (counts : List ℕ) → slice_index (front ++ c ∷ counts) (length front) ≡ c
+at_front [] c counts = refl
+at_front (x ∷ front) c counts = at_front front c counts
 
-pub named_small : (names : List Named) (at : ℕ) (text : List ℕ) (parameters : List Parameter) (body : List PlainStmt)
-    → IsTrue (has_none (named_faults names at text parameters body)) → FunctionSmall parameters body
-named_small names at text parameters body none =
-    let many = where_so (nat_lt 6 (length parameters)) at fault.Params in
-    let wide = where_so (nat_lt 120 (function_frame parameters body)) at fault.Frame in
-    let heavy = where_so (nat_lt 4096 (function_weight body)) at fault.Heavy in
-    let behind = none_right (twice_faults 0 names at text) (many ++ (wide ++ heavy)) none in
-    let few = not_so (nat_lt 6 (length parameters)) at fault.Params (none_left many (wide ++ heavy) behind) in
-    let narrow = not_so (nat_lt 120 (function_frame parameters body)) at fault.Frame
-    (none_left wide heavy (none_right many (wide ++ heavy) behind)) in
-    let light = not_so (nat_lt 4096 (function_weight body)) at fault.Heavy
-    (none_right wide heavy (none_right many (wide ++ heavy) behind)) in
-    record {
-      few = grind (arith, nat_tests, few);
-      frame = grind (arith, nat_tests, narrow);
-      heavy = grind (arith, nat_tests, light);
-    }
+module _ (cores own : ℕ) (low : cores ≤ 16) (slots : List Slot) (each : Each SlotFits slots) (counts : List ℕ) where
+  items_sound : (names : List Named) (fs : List (List ℕ)) (front : List ℕ) → Knows names fs counts
+      → (items : List PlainItem) → length front ≡ length fs → counts ≡ front ++ parameters_in items
+      → ItemsTyped cores own names items → (k : ℕ) → k < length (resolved_items slots fs items)
+      → FunctionSound (Callable counts (length fs + k)) (slice_index (parameters_in items) k)
+      (slice_index_or (resolved_items slots fs items) k no_action)
+  items_sound names fs front known [] count split typed k within = absurd (omega (arith, within))
+  items_sound names fs front known (global g ∷ items) count split typed k within =
+      items_sound (declared names g.name (means_of g)) fs front (knows_global names fs counts g.name g.length known)
+      items count split typed.1 k within
+  items_sound names fs front known (function kind text void_word ps body ∷ items) count split typed zero within =
+      let same : length fs ≡ length fs + 0 = omega arith in
+      subst (λ n. FunctionSound (Callable counts n) (length ps) (resolved_body fs
+      (record { slots = slots; variables = parameter_variables ps }) body)) same
+      (record {
+        few = typed.0.few;
+        frame = omega (arith, typed.0.framed, frame_within fs slots ps body);
+        sound = function_sound cores own low fs counts slots each names known kind text ps body typed.0;
+      })
+  items_sound names fs front known (function kind text void_word ps body ∷ items) count split typed (suc j) within =
+      let same : length (fs ++ text ∷ []) + j ≡ length fs + suc j = omega (arith, length-append fs (text ∷ [])) in
+      subst (λ n. FunctionSound (Callable counts n) (slice_index (parameters_in items) j) (slice_index_or
+      (resolved_items slots (fs ++ text ∷ []) items) j no_action)) same
+      (items_sound (with_item names (function kind text void_word ps body)) (fs ++ text ∷ []) (front ++ length ps ∷ [])
+      (knows_function names fs counts text (length ps) (is_some kind)
+      (ap₂ slice_index split (sym count) ∙ at_front front (length ps) (parameters_in items)) known) items
+      (length-append front (length ps ∷ []) ∙ ap (λ m. m + 1) count ∙ sym (length-append fs (text ∷ [])))
+      (split ∙ sym (append_assoc front (length ps ∷ []) (parameters_in items))) typed.1 j (omega (arith, within)))
 
-function_sound : (slots : List Slot) → Each SlotFits slots → (fs : List (List ℕ)) (cores own : ℕ) → cores ≤ 16
-    → (names : List Named) (at : ℕ)
-    (kind : Option Kind) (text : List ℕ) (void_word : Bool) (parameters : List Parameter) (body : List PlainStmt)
-    → IsTrue (has_none (function_faults cores own names at kind text void_word parameters body))
-    → FunctionSound (length parameters) (resolved_body fs
-    (record { slots = slots; variables = parameter_variables parameters }) body)
-function_sound slots each fs cores own few names at kind text void_word parameters body none =
-    let name_at = at + length (gives_tokens kind) in
-    let inner = declared names text (function_means true kind parameters) in
-    let within : Within =
-    record { cores = cores; own = own; gives = is_some kind; in_loop = false; outer = length inner } in
-    let body_at = name_at + 2 + list_size void_word parameters + 2 in
-    let heads = named_faults names name_at text parameters body in
-    let inside = inner_faults cores own inner name_at kind void_word parameters body in
-    let small = named_small names name_at text parameters body (none_left heads inside none) in
-    let open_names = with_parameters inner parameters in
-    record {
-      few = small.few;
-      frame = omega (arith, small.frame, frame_within fs slots parameters body);
-      sound = body_sound (record { slots = slots; variables = parameter_variables parameters }) each fs within few
-          open_names body_at body
-          (none_right (parameters_faults (length inner) inner (name_at + 2) parameters)
-          (body_faults within open_names body_at body)
-          (none_right heads inside none));
-    }
-
-items_sound : (slots : List Slot) → Each SlotFits slots → (fs : List (List ℕ)) (cores own : ℕ) → cores ≤ 16
-    → (names : List Named) (at : ℕ)
-    (items : List PlainItem) → IsTrue (has_none (items_faults cores own names at items)) → (k : ℕ)
-    → k < length (resolved_items slots fs items)
-    → FunctionSound (slice_index (parameters_in items) k) (slice_index_or (resolved_items slots fs items) k no_action)
-items_sound slots each fs cores own few names at [] none k within = absurd (omega (arith, within))
-items_sound slots each fs cores own few names at (global g ∷ items) none k within =
-    let behind = items_faults cores own (with_item names (global g)) (at + item_size (global g)) items in
-    items_sound slots each fs cores own few (with_item names (global g)) (at + item_size (global g)) items
-    (none_right (item_faults cores own names at (global g)) behind none) k within
-items_sound slots each fs cores own few names at (function kind text void_word parameters body ∷ items)
-    none zero within =
-    let f = function kind text void_word parameters body in
-    let behind = items_faults cores own (with_item names f) (at + item_size f) items in
-    function_sound slots each fs cores own few names at kind text void_word parameters body
-    (none_left (item_faults cores own names at f) behind none)
-items_sound slots each fs cores own few names at (function kind text void_word parameters body ∷ items) none
-    (suc k) within =
-    let f = function kind text void_word parameters body in
-    let behind = items_faults cores own (with_item names f) (at + item_size f) items in
-    items_sound slots each (fs ++ text ∷ []) cores own few (with_item names f) (at + item_size f) items
-    (none_right (item_faults cores own names at f) behind none) k (omega (arith, within))
+pub functions_sound : (cores own : ℕ) (items : List PlainItem) → cores ≤ 16 → IsValid items cores own → (k : ℕ)
+    → k < length (resolved_items (layout_of items) [] items)
+    → FunctionSound (Callable (parameters_in items) k) (slice_index (parameters_in items) k)
+    (slice_index_or (resolved_items (layout_of items) [] items) k no_action)
+functions_sound cores own items few valid k within =
+    let counts = parameters_in items in
+    let none_before : 0 + k ≡ k = omega arith in
+    subst (λ n. FunctionSound (Callable counts n) (slice_index counts k)
+    (slice_index_or (resolved_items (layout_of items) [] items) k no_action)) none_before
+    (items_sound cores own few (layout_of items) (layout_fits cores own items valid) counts given [] []
+    (given_known counts) items refl refl (typed_of cores own items valid).each k within)
 
 -- ---- what is made of them is well formed
 
 function_made_formed : (Fit : ℕ → ℕ → Type 0) (fs : List PlainFunction) (number : ℕ) → MayCall Fit fs number
-    → (parameters : ℕ) (body : PlainActions) → Fits Fit false body → FunctionSound parameters body
+    → (parameters : ℕ) (body : PlainActions) → FunctionSound Fit parameters body
     → function_formed fs number (made_function parameters body) ≡ true
-function_made_formed Fit fs number each parameters body fits known =
+function_made_formed Fit fs number each parameters body known =
     let n = variables parameters body in
     let p = outermost n in
     let f = made_function parameters body in
@@ -164,7 +111,7 @@ function_made_formed Fit fs number each parameters body fits known =
     (more_formed fs number (slots_of f) (masks p.function (begun_mask p)) (made None p body)
     (begun_formed fs number (slots_of f) p (below n (slots_of f) p (outermost_order n) within))
     (made_formed Fit fs number (slots_of f) n each body false None p (outermost_order n) (omega arith)
-    (omega (arith, slots)) fits known.sound)))))))
+    (omega (arith, slots)) known.sound)))))))
 
 -- an earlier function is there, and has as many parameters as it is given arguments
 callable_formed : (counts : List ℕ) (bodies : List PlainActions) (n : ℕ) → length counts ≡ length bodies
@@ -177,19 +124,19 @@ callable_formed counts bodies n same within k args call =
     (omega (arith, call.0, within))))))
 
 all_formed : (counts : List ℕ) (bodies : List PlainActions) → length counts ≡ length bodies
-    → ((k : ℕ) → k < length bodies → Fits (Callable counts k) false (slice_index_or bodies k no_action))
-    → ((k : ℕ) → k < length bodies → FunctionSound (slice_index counts k) (slice_index_or bodies k no_action)) → (n : ℕ)
+    → ((k : ℕ) → k < length bodies
+    → FunctionSound (Callable counts k) (slice_index counts k) (slice_index_or bodies k no_action)) → (n : ℕ)
     → n ≤ length bodies
     → functions_formed (made_functions counts bodies) n ≡ true
-all_formed counts bodies same fits sound zero within = refl
-all_formed counts bodies same fits sound (suc n) within =
-    and_from _ _ (all_formed counts bodies same fits sound n (omega (arith, within)))
+all_formed counts bodies same sound zero within = refl
+all_formed counts bodies same sound (suc n) within =
+    and_from _ _ (all_formed counts bodies same sound n (omega (arith, within)))
     (ap (function_formed (made_functions counts bodies) n) (made_at counts bodies n (omega (arith, within, same))
     (omega (arith, within)))
     ∙ function_made_formed (Callable counts n) (made_functions counts bodies) n
     (callable_formed counts bodies n same (omega (arith, within))) (slice_index counts n)
     (slice_index_or bodies n no_action)
-    (fits n (omega (arith, within))) (sound n (omega (arith, within))))
+    (sound n (omega (arith, within))))
 
 -- ---- a whole program
 
@@ -213,9 +160,7 @@ functions_are_formed cores own items few valid =
     let counts = parameters_in items in
     let bodies = resolved_items (layout_of items) [] items in
     let same = as_many (layout_of items) [] items in
-    all_formed counts bodies same (functions_fit cores own items valid)
-    (items_sound (layout_of items) (layout_fits cores own items valid) [] cores own few given 0 items
-    (ends_of cores own items valid).each)
+    all_formed counts bodies same (functions_sound cores own items few valid)
     (length (made_functions counts bodies)) (omega (arith, made_length counts bodies same))
 
 -- the frame of each function of a valid program
@@ -224,8 +169,7 @@ pub frames_small : (cores own : ℕ) (items : List PlainItem) → cores ≤ 16 �
     → (made_function (slice_index (parameters_in items) k) (slice_index_or (resolved_items (layout_of items) [] items) k
     no_action)).frame ≤ 120
 frames_small cores own items few valid k within =
-    (items_sound (layout_of items) (layout_fits cores own items valid) [] cores own few given 0 items
-    (ends_of cores own items valid).each k within).frame
+    (functions_sound cores own items few valid k within).frame
 
 -- the same of parameters and actions that were found to be those of the program
 pub frames_fit : (cores own : ℕ) (items : List PlainItem) → cores ≤ 16 → IsValid items cores own → (slots : List Slot)

@@ -15,12 +15,12 @@ use Rattle.single_path.specs.declared.part_words.PartWords.{PartWords}
 use Rattle.single_path.specs.PartWords.{in_arm, in_loop, where_so, where_not_taken, where_other, where_on, where_not_returned, bit_of, not_zero, returned_function, returned_loop}
 use Rattle.single_path.specs.Widths.{result_words, expr_words, args_words, target_words, step_words, words, action_words, branches_words, branches_masks}
 use Rattle.single_path.specs.Widths as width
-use Rattle.single_path.proofs.Fits.{FitsAction, Fits, FitsBranches}
 use Rattle.single_path.proofs.Frames.{Order}
 use Rattle.single_path.proofs.Idle.{order_arm, order_loop, order_part, part_free}
 use Rattle.single_path.proofs.MasksFormed.{Below, begun_part_formed, below, both_formed, broken_formed, condition_sound, continued_formed, mask_formed, more_formed, not_returned_formed, on_formed, other_formed, so_words, returned_function_formed, returned_loop_formed, unless_formed, words_there}
 use Rattle.single_path.proofs.Needs.{Sound, sound_word, sound_formed, sound_args_formed}
-use Rattle.single_path.proofs.Sound.{SoundTarget, SoundResult, SoundStep, SoundAction, AllSound, SoundBranches}
+use Rattle.single_path.proofs.Acts.{Gives, Steps}
+use Rattle.single_path.proofs.Sound.{SoundTarget, SoundAction, AllSound, SoundBranches}
 
 -- ---- what is set, and calls
 
@@ -40,7 +40,7 @@ write_formed fs number slots mask target e there to sound within of =
     (sound_formed slots e sound of))
 
 step_formed : (fs : List PlainFunction) (number slots mask : ℕ) (step : Option PlainAssignment) → mask < slots
-    → SoundStep step
+    → Steps SoundTarget Sound step
     → step_words step ≤ slots → stmts_formed fs number slots (made_step mask step) ≡ true
 step_formed fs number slots mask None there sound within = refl
 step_formed fs number slots mask (Some a) there sound within =
@@ -75,7 +75,7 @@ by_word_formed fs number slots p k args target own free callee each to within of
 call_formed : (fs : List PlainFunction) (number slots : ℕ) (p : PartWords) (k : ℕ) (args : List PlainSp)
     (target : Option PlainTarget) → p.own < slots
     → p.free + width.result_masks target ≤ slots → callee_formed fs number k (length args) ≡ true → Each Sound args
-    → SoundResult target
+    → Gives SoundTarget target
     → args_words args ≤ slots → result_words target ≤ slots → stmts_formed fs number slots (made_call p k args target)
     ≡ true
 call_formed fs number slots p k args None own free callee each to within of =
@@ -169,7 +169,8 @@ arm_formed fs number slots p condition arm exits nothing rest b free sound withi
 
 iteration_formed : (fs : List PlainFunction) (number slots : ℕ) (p : PartWords) (condition : PlainSp) (exits : Bool)
     (body : PlainStmts) (step : Option PlainAssignment)
-    → p.free < slots → Sound condition → expr_words condition ≤ slots → SoundStep step → step_words step ≤ slots
+    → p.free < slots → Sound condition → expr_words condition ≤ slots → Steps SoundTarget Sound step
+    → step_words step ≤ slots
     → stmts_formed fs number slots body ≡ true → stmts_formed fs number slots (made_iteration p condition exits
     body step) ≡ true
 iteration_formed fs number slots p condition exits body step free sound within to of inside =
@@ -207,7 +208,8 @@ begun_made_formed fs number slots p false b free = refl
 
 counted_formed : (fs : List PlainFunction) (number slots : ℕ) (p : PartWords) (n : ℕ) (resumes : Bool)
     (body : PlainStmts) (step : Option PlainAssignment)
-    → Below p slots → p.free < slots → SoundStep step → step_words step ≤ slots → stmts_formed fs number slots body
+    → Below p slots → p.free < slots → Steps SoundTarget Sound step → step_words step ≤ slots
+    → stmts_formed fs number slots body
     ≡ true
     → stmts_formed fs number slots (made_counted p (suc n) resumes body step) ≡ true
 counted_formed fs number slots p n resumes body step b free to of inside =
@@ -228,18 +230,18 @@ repeated_formed : (fs : List PlainFunction) (number slots n : ℕ) (known : Opti
     (condition : PlainSp) (body : PlainActions)
     (step : Option PlainAssignment) → Order n p → action_words (iterations most condition body step) ≤ n
     → p.free + width.action_masks (iterations most condition body step) ≤ slots
-    → SoundAction (iterations most condition body step)
+    → Sound condition → Steps SoundTarget Sound step
     → ((q : PartWords) → Order n q → q.free + width.masks body ≤ slots → stmts_formed fs number slots (made None q body)
     ≡ true)
     → stmts_formed fs number slots (made_action known p (iterations most condition body step)) ≡ true
-repeated_formed fs number slots n known p zero condition body step order within free sound each = by known
+repeated_formed fs number slots n known p zero condition body step order within free test next each = by known
   where
     more : n ≤ slots
     more = words_there n slots p order (omega (arith, free))
 
     flag : stmts_formed fs number slots (tree.one (overruns p.own condition)) ≡ true
     flag = more_formed fs number slots (overruns p.own condition) no_stmt
-        (overrun_formed fs number slots p.own condition (below n slots p order (omega (arith, free))).own sound.0
+        (overrun_formed fs number slots p.own condition (below n slots p order (omega (arith, free))).own test
         (omega (arith, within, more))) refl
 
     -- no iteration is counted
@@ -247,7 +249,7 @@ repeated_formed fs number slots n known p zero condition body step order within 
         (iterations zero condition body step)) ≡ true
     by None = flag
     by (Some s) = flag
-repeated_formed fs number slots n known p (suc k) condition body step order within free sound each =
+repeated_formed fs number slots n known p (suc k) condition body step order within free test next each =
     by (is_counted known (suc k) condition body step)
   where
     b : Below p slots
@@ -268,95 +270,93 @@ repeated_formed fs number slots n known p (suc k) condition body step order with
     by : (counted : Bool)
         → stmts_formed fs number slots (if counted then made_counted p (suc k) resumes (made None inner body) step else
         made_loop p (suc k) condition (actions_exit by_return body) iteration) ≡ true
-    by true = counted_formed fs number slots p k resumes (made None inner body) step b (omega (arith, free)) sound.1.1
+    by true = counted_formed fs number slots p k resumes (made None inner body) step b (omega (arith, free)) next
         (omega (arith, within, more))
         (each inner (order_part n p resumes order) (omega (arith, free, part_free p resumes)))
     by false = loop_formed fs number slots p k condition (actions_exit by_return body) iteration b (omega (arith, free))
-        sound.0 (omega (arith, within, more))
+        test (omega (arith, within, more))
         (iteration_formed fs number slots p condition (actions_exit by_continue body) (made None (in_loop p) body) step
-        (omega (arith, free)) sound.0
-        (omega (arith, within, more)) sound.1.1 (omega (arith, within, more)) (each (in_loop p) (order_loop n p order)
+        (omega (arith, free)) test
+        (omega (arith, within, more)) next (omega (arith, within, more)) (each (in_loop p) (order_loop n p order)
         (omega (arith, free))))
 
 -- the variables have the first so many words
 mutual
   action_formed : (Fit : ℕ → ℕ → Type 0) (fs : List PlainFunction) (number slots n : ℕ)
       → MayCall Fit fs number → (a : PlainAction) (inside : Bool) (known : Option Start) (p : PartWords) → Order n p
-      → action_words a ≤ n → p.free + width.action_masks a ≤ slots → FitsAction Fit inside a → SoundAction a
+      → action_words a ≤ n → p.free + width.action_masks a ≤ slots → SoundAction Fit inside a
       → stmts_formed fs number slots (made_action known p a) ≡ true
-  action_formed Fit fs number slots n each (sets a) inside known p order within free fits sound =
+  action_formed Fit fs number slots n each (sets a) inside known p order within free so =
       let b = below n slots p order (omega (arith, free)) in
       let more = words_there n slots p order (omega (arith, free)) in
       more_formed fs number slots (made_assignment p.own a) no_stmt
-      (write_formed fs number slots p.own a.target a.value b.own sound.0 sound.1 (omega (arith, within, more))
+      (write_formed fs number slots p.own a.target a.value b.own so.0 so.1 (omega (arith, within, more))
       (omega (arith, within, more))) refl
-  action_formed Fit fs number slots n each (calls k args result) inside known p order within free fits sound =
+  action_formed Fit fs number slots n each (calls k args result) inside known p order within free so =
       let b = below n slots p order (omega (arith, free)) in
       let more = words_there n slots p order (omega (arith, free)) in
-      call_formed fs number slots p k args result b.own free (each k (length args) fits) sound.0 sound.1
+      call_formed fs number slots p k args result b.own free (each k (length args) so.0) so.1 so.2
       (omega (arith, within, more)) (omega (arith, within, more))
   action_formed Fit fs number slots n each (transfers core source target count) inside known p order within
-      free fits sound =
+      free so =
       let b = below n slots p order (omega (arith, free)) in
       let more = words_there n slots p order (omega (arith, free)) in
-      and_from _ _ (and_from _ _ (lt-ltb p.own slots b.own) (and_from _ _ (lt-ltb core 16 sound.0)
-      (and_from _ _ (sound_formed slots source sound.1.0 (omega (arith, within, more)))
-      (and_from _ _ (sound_formed slots target sound.1.1.0 (omega (arith, within, more)))
-      (sound_formed slots count sound.1.1.1 (omega (arith, within, more))))))) refl
-  action_formed Fit fs number slots n each (chooses branches otherwise) inside known p order within free fits sound =
+      and_from _ _ (and_from _ _ (lt-ltb p.own slots b.own) (and_from _ _ (lt-ltb core 16 so.0)
+      (and_from _ _ (sound_formed slots source so.1 (omega (arith, within, more)))
+      (and_from _ _ (sound_formed slots target so.2 (omega (arith, within, more)))
+      (sound_formed slots count so.3 (omega (arith, within, more))))))) refl
+  action_formed Fit fs number slots n each (chooses branches otherwise) inside known p order within free so =
       both_formed fs number slots (made_branches p branches (is_no_action otherwise) (λ q. made None q otherwise))
       (made_after p (branches_exit any_exit branches || actions_exit any_exit otherwise))
       (branches_formed Fit fs number slots n each branches (is_no_action otherwise) (λ q. made None q otherwise)
       (width.masks otherwise)
       (λ q there room. made_formed Fit fs number slots n each otherwise inside None q there (omega (arith, within)) room
-      fits.1 sound.1)
-      inside p order (omega (arith, within)) free fits.0 sound.0)
+      so.1)
+      inside p order (omega (arith, within)) free so.0)
       (after_formed fs number slots p (branches_exit any_exit branches || actions_exit any_exit otherwise)
       (below n slots p order (omega (arith, free))))
   action_formed Fit fs number slots n each (iterations most condition body step) inside known p order within
-      free fits sound =
-      repeated_formed fs number slots n known p most condition body step order within free sound
-      (λ q there room. made_formed Fit fs number slots n each body true None q there (omega (arith, within)) room
-      fits sound.1.0)
-  action_formed Fit fs number slots n each breaks inside known p order within free fits sound =
+      free so =
+      repeated_formed fs number slots n known p most condition body step order within free so.0 so.2
+      (λ q there room. made_formed Fit fs number slots n each body true None q there (omega (arith, within)) room so.1)
+  action_formed Fit fs number slots n each breaks inside known p order within free so =
       and_from _ _ (broken_formed fs number slots p (below n slots p order (omega (arith, free)))) refl
-  action_formed Fit fs number slots n each continues inside known p order within free fits sound =
+  action_formed Fit fs number slots n each continues inside known p order within free so =
       and_from _ _ (continued_formed fs number slots p (below n slots p order (omega (arith, free)))) refl
-  action_formed Fit fs number slots n each (returns e) inside known p order within free fits sound =
+  action_formed Fit fs number slots n each (returns e) inside known p order within free so =
       let more = words_there n slots p order (omega (arith, free)) in
-      return_formed fs number slots p e (below n slots p order (omega (arith, free))) sound
+      return_formed fs number slots p e (below n slots p order (omega (arith, free))) so
       (omega (arith, within, more))
 
   pub made_formed : (Fit : ℕ → ℕ → Type 0) (fs : List PlainFunction) (number slots n : ℕ)
       → MayCall Fit fs number → (xs : PlainActions) (inside : Bool) (known : Option Start) (p : PartWords) → Order n p
-      → words xs ≤ n → p.free + width.masks xs ≤ slots → Fits Fit inside xs → AllSound xs
+      → words xs ≤ n → p.free + width.masks xs ≤ slots → AllSound Fit inside xs
       → stmts_formed fs number slots (made known p xs) ≡ true
-  made_formed Fit fs number slots n each no_action inside known p order within free fits sound = refl
-  made_formed Fit fs number slots n each (action a rest) inside known p order within free fits sound =
+  made_formed Fit fs number slots n each no_action inside known p order within free so = refl
+  made_formed Fit fs number slots n each (action a rest) inside known p order within free so =
       both_formed fs number slots (made_action known p a) (if ends a then no_stmt else made (start_of a) p rest)
       (action_formed Fit fs number slots n each a inside known p order (omega (arith, within)) (omega (arith, free))
-      fits.0 sound.0)
+      so.0)
       (unless_formed fs number slots (ends a) (made (start_of a) p rest)
       (made_formed Fit fs number slots n each rest inside (start_of a) p order (omega (arith, within))
-      (omega (arith, free)) fits.1 sound.1))
+      (omega (arith, free)) so.1))
 
   -- before what stands after the last `else`, which takes so many masks
   branches_formed : (Fit : ℕ → ℕ → Type 0) (fs : List PlainFunction) (number slots n : ℕ)
       → MayCall Fit fs number → (bs : PlainBranches) (nothing : Bool) (otherwise : PartWords → PlainStmts) (last : ℕ)
       → ((q : PartWords) → Order n q → q.free + last ≤ slots → stmts_formed fs number slots (otherwise q) ≡ true)
       → (inside : Bool) (p : PartWords) → Order n p → branches_words bs ≤ n → p.free + branches_masks bs last ≤ slots
-      → FitsBranches Fit inside bs
-      → SoundBranches bs → stmts_formed fs number slots (made_branches p bs nothing otherwise) ≡ true
-  branches_formed Fit fs number slots n each no_branch nothing otherwise last behind inside p order within free fits
-      sound = behind p order free
+      → SoundBranches Fit inside bs → stmts_formed fs number slots (made_branches p bs nothing otherwise) ≡ true
+  branches_formed Fit fs number slots n each no_branch nothing otherwise last behind inside p order within free so =
+      behind p order free
   branches_formed Fit fs number slots n each (branch condition body rest) nothing otherwise last behind inside p order
-      within free fits sound =
+      within free so =
       let more = words_there n slots p order (omega (arith, free)) in
       arm_formed fs number slots p condition (made None (in_arm p) body) (actions_exit any_exit body)
       (is_no_branch rest && nothing) (made_branches (in_arm p) rest nothing otherwise)
-      (below n slots p order (omega (arith, free))) (omega (arith, free)) sound.0 (omega (arith, within, more))
+      (below n slots p order (omega (arith, free))) (omega (arith, free)) so.0 (omega (arith, within, more))
       (made_formed Fit fs number slots n each body inside None (in_arm p) (order_arm n p order) (omega (arith, within))
-      (omega (arith, free)) fits.0 sound.1.0)
+      (omega (arith, free)) so.1)
       (branches_formed Fit fs number slots n each rest nothing otherwise last behind inside (in_arm p)
       (order_arm n p order) (omega (arith, within))
-      (omega (arith, free)) fits.1 sound.1.1)
+      (omega (arith, free)) so.2)

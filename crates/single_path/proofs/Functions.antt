@@ -14,14 +14,10 @@ use Rattle.single_path.specs.Single.{variables, begun_mask, made_function, made_
 use Rattle.single_path.proofs.Acting.{live_all}
 use Rattle.single_path.proofs.Calling.{Serving}
 use Rattle.single_path.proofs.Ways.{Went}
-use Rattle.single_path.proofs.Fits.{Fits}
 use Rattle.single_path.proofs.Frames.{put_here, put_there, Order}
 use Rattle.single_path.proofs.Idle.{Quiet, Dead, gone, dead}
 use Rattle.single_path.proofs.Resting.{AllRest, actions_rest}
-
--- an earlier function, with as many arguments as it has parameters
-abbrev pub Callable : List ℕ → ℕ → ℕ → ℕ → Type 0
-Callable counts n k args = (k < n) × (args ≡ slice_index counts k)
+use Rattle.single_path.proofs.Sound.{Callable, AllSound}
 
 pub outermost_order : (n : ℕ) → Order n (outermost n)
 outermost_order n =
@@ -100,7 +96,7 @@ function_stands g quiet parameters body under args w x other within =
 
 function_serves : (Fit : ℕ → ℕ → Type 0) (gc : resolved.Serves) (g : Serves) → Serving Fit gc g → (parameters : ℕ)
     (body : PlainActions) (args : List ℕ) (w : World)
-    → Fits Fit false body → length args ≡ parameters
+    → AllSound Fit false body → length args ≡ parameters
     → let n = variables parameters body in
     Went n (outermost n) (masked_state parameters body 1 args w) (resolved.actions_done gc body
     (record { locals = slice_index args; world = w }))
@@ -135,7 +131,7 @@ made_at (c ∷ counts) (body ∷ bodies) (suc k) within there =
 
 -- one more of them serves
 next_serves : (counts : List ℕ) (n : ℕ) (body : PlainActions) (f : PlainFunction) (gc : resolved.Serves) (g : Serves)
-    → f ≡ made_function (slice_index counts n) body → Fits (Callable counts n) false body
+    → f ≡ made_function (slice_index counts n) body → AllSound (Callable counts n) false body
     → Serving (Callable counts n) gc g
     → Serving (Callable counts (suc n))
     (λ k args w. if k == n then resolved.routine_outcome gc body args w else gc k args w)
@@ -194,7 +190,7 @@ next_serves counts n body f gc g is fits serving = record {
 
 -- the first so many of them serve
 pub functions_serve : (counts : List ℕ) (bodies : List PlainActions) → length counts ≡ length bodies
-    → ((k : ℕ) → k < length bodies → Fits (Callable counts k) false (slice_index_or bodies k no_action)) → (n : ℕ)
+    → ((k : ℕ) → k < length bodies → AllSound (Callable counts k) false (slice_index_or bodies k no_action)) → (n : ℕ)
     → n ≤ length bodies
     → Serving (Callable counts n) (resolved.serves bodies n) (serves (made_functions counts bodies) n)
 functions_serve counts bodies same fits zero within = record {

@@ -9,7 +9,7 @@ use Rattle.c_meaning.specs.Resolved as resolved
 use Rattle.c_meaning.specs.Values as values
 use Rattle.single_path.specs.Counted.{is_level, step_sets, action_sets, actions_set, branches_set}
 use Rattle.single_path.specs.Made.{ends, any_exit, action_exits, actions_exit, branches_exit}
-use Rattle.single_path.proofs.Fits.{FitsAction, Fits, FitsBranches}
+use Rattle.single_path.proofs.Acts.{Rules, Does, Do, AnyDo}
 use Rattle.single_path.proofs.Frames.{put_there}
 
 -- ---- the word of a variable
@@ -124,40 +124,36 @@ ends_exits (transfers core source target count) is = absurd (true≢false (sym i
 ends_exits (chooses branches otherwise) is = absurd (true≢false (sym is))
 ends_exits (iterations most condition body step) is = absurd (true≢false (sym is))
 
-mutual
-  action_fits : (Fit : ℕ → ℕ → Type 0) (inside : Bool) (a : PlainAction) → action_exits any_exit a ≡ false
-      → FitsAction Fit true a → FitsAction Fit inside a
-  action_fits Fit inside (sets a) none fits = tt
-  action_fits Fit inside (calls k args result) none fits = fits
-  action_fits Fit inside (transfers core source target count) none fits = tt
-  action_fits Fit inside (chooses branches otherwise) none fits =
-      let both = or_parts (branches_exit any_exit branches) (actions_exit any_exit otherwise) none in
-      (branches_fit Fit inside branches both.0 fits.0, actions_fit Fit inside otherwise both.1 fits.1)
-  action_fits Fit inside (iterations most condition body step) none fits = fits
-  action_fits Fit inside breaks none fits = absurd (true≢false none)
-  action_fits Fit inside continues none fits = absurd (true≢false none)
-  action_fits Fit inside (returns e) none fits = tt
+module _ (r : Rules) (inside : Bool) where
+  mutual
+    action_stays : (a : PlainAction) → action_exits any_exit a ≡ false → Does r true a → Does r inside a
+    action_stays (chooses branches otherwise) none does =
+        let both = or_parts (branches_exit any_exit branches) (actions_exit any_exit otherwise) none in
+        (branches_stay branches both.0 does.0, actions_stay otherwise both.1 does.1)
+    action_stays breaks none does = absurd (true≢false none)
+    action_stays continues none does = absurd (true≢false none)
+    action_stays (sets a) none does = does
+    action_stays (calls k args result) none does = does
+    action_stays (transfers core source target count) none does = does
+    action_stays (iterations most condition body step) none does = does
+    action_stays (returns e) none does = does
 
-  pub actions_fit : (Fit : ℕ → ℕ → Type 0) (inside : Bool) (all : PlainActions) → actions_exit any_exit all ≡ false
-      → Fits Fit true all → Fits Fit inside all
-  actions_fit Fit inside no_action none fits = tt
-  actions_fit Fit inside (action a rest) none fits =
-      let both = or_parts (action_exits any_exit a) (if ends a then false else actions_exit any_exit rest) none in (
-        action_fits Fit inside a both.0 fits.0,
-        by (ends a) refl both.0 both.1
-            (λ rest_none. actions_fit Fit inside rest rest_none fits.1),
-      )
-    where
-      by : (ended : Bool) → ends a ≡ ended → action_exits any_exit a ≡ false
-          → (if ended then false else actions_exit any_exit rest) ≡ false
-          → (actions_exit any_exit rest ≡ false → Fits Fit inside rest) → Fits Fit inside rest
-      by true is none_here none_after further = absurd (true≢false (sym (ends_exits a is) ∙ none_here))
-      by false is none_here none_after further = further none_after
+    pub actions_stay : (all : PlainActions) → actions_exit any_exit all ≡ false → Do r true all → Do r inside all
+    actions_stay no_action none does = tt
+    actions_stay (action a rest) none does =
+        let both = or_parts (action_exits any_exit a) (if ends a then false else actions_exit any_exit rest) none in (
+          action_stays a both.0 does.0,
+          by (ends a) refl both.0 both.1 (λ rest_none. actions_stay rest rest_none does.1),
+        )
+      where
+        by : (ended : Bool) → ends a ≡ ended → action_exits any_exit a ≡ false
+            → (if ended then false else actions_exit any_exit rest) ≡ false
+            → (actions_exit any_exit rest ≡ false → Do r inside rest) → Do r inside rest
+        by true is none_here none_after further = absurd (true≢false (sym (ends_exits a is) ∙ none_here))
+        by false is none_here none_after further = further none_after
 
-  branches_fit : (Fit : ℕ → ℕ → Type 0) (inside : Bool) (bs : PlainBranches) → branches_exit any_exit bs ≡ false
-      → FitsBranches Fit true bs
-      → FitsBranches Fit inside bs
-  branches_fit Fit inside no_branch none fits = tt
-  branches_fit Fit inside (branch condition body rest) none fits =
-      let both = or_parts (actions_exit any_exit body) (branches_exit any_exit rest) none in
-      (actions_fit Fit inside body both.0 fits.0, branches_fit Fit inside rest both.1 fits.1)
+    branches_stay : (bs : PlainBranches) → branches_exit any_exit bs ≡ false → AnyDo r true bs → AnyDo r inside bs
+    branches_stay no_branch none does = tt
+    branches_stay (branch condition body rest) none does =
+        let both = or_parts (actions_exit any_exit body) (branches_exit any_exit rest) none in
+        (does.0, actions_stay body both.0 does.1, branches_stay rest both.1 does.2)

@@ -3,7 +3,7 @@ use Rattle.std.proofs.Common.{◌≡◌, ◌≢◌, ℕ, ◌<◌, ◌≤◌, ◌
 use Rattle.std.specs.Prelude.{bit_and, bit_xor}
 use Rattle.c_world.specs.Numbers.{sum_of}
 use Rattle.sp_tree.specs.declared.operators.SpBinary.TheVariants as binary
-use Rattle.sp_tree.specs.Plain.{PlainSp, constant, frame_word, cell_word, array_word, before_one, between_two}
+use Rattle.sp_tree.specs.Plain.{PlainSp, constant, frame_word, between_two}
 use Rattle.sp_tree.specs.Statements.{to_slot, masks, writes, no_stmt, stmt, one}
 use Rattle.sp_tree.specs.Straight.{State, Serves, with_slot, write_done, worth, stmts_done}
 use Rattle.sp_tree.proofs.Joins.{joined_done}

@@ -1,6 +1,7 @@
 -- What each function may weigh and how many words its frame may have, as words tell it.
-use Rattle.std.proofs.Common.{◌≡◌, ℕ, ◌+◌, ◌<◌, ◌≤◌, List, [], ◌∷◌, ◌++◌, length, map, get_or, drop, refl, sym, ◌∙◌, ap, ap₂, arith, IfOk, append_assoc}
-use Rattle.std.specs.Prelude.{IsTrue, Result, Ok, Err}
+use Rattle.std.proofs.Common.{◌≡◌, ℕ, zero, suc, ◌+◌, ◌<◌, ◌≤◌, ◌^◌, slice_index, List, [], ◌∷◌, ◌++◌, length, map, get_or, drop, refl, sym, ◌∙◌, ap, ap₂, arith, IfOk, append_assoc}
+use Rattle.std.specs.List.{AllByRecursion as Each}
+use Rattle.std.specs.Prelude.{Result, Ok, Err}
 use Rattle.std.proofs.lemmas.List.{drop_all, append-nil}
 use Rattle.tc_word.proofs.Items.{drop_item}
 use Rattle.c_tree.specs.declared.units.Function.{Function}
@@ -10,54 +11,65 @@ use Rattle.c_tree.specs.declared.units.Item.TheVariants as item
 use Rattle.c_tree.specs.Frame.{function_frame}
 use Rattle.c_tree.specs.Names.{Named, given}
 use Rattle.c_tree.specs.Plain.{PlainItem, global, function, plain_item, plain_stmt}
-use Rattle.c_tree.specs.Sizes.{item_size}
-use Rattle.c_tree.specs.Tokens.{gives_tokens}
-use Rattle.c_tree.specs.Valid.{IsValid, has_none, named_faults, item_faults, items_faults, with_item}
+use Rattle.c_tree.specs.Valid.{IsValid, with_item}
 use Rattle.c_tree.specs.Weight.{function_weight}
-use Rattle.c_tree.proofs.Faultless.{none_left, none_right}
+use Rattle.c_tree.specs.Typed.{ItemsTyped}
+use Rattle.c_tree.proofs.Typing.{typed_of}
+use Rattle.c_tree.specs.declared.limits.TheConstants.{MOST_FRAME_WORDS, MOST_FUNCTION_WEIGHT}
 use Rattle.c_check.specs.Capped.{capped}
 use Rattle.sp_tree.specs.declared.statements.SpUnit.{SpUnit}
 use Rattle.sp_tree.specs.Shown.{plain_unit}
 use Rattle.sp_tree.specs.Statements.{PlainUnit}
 use Rattle.sp_inline.specs.Taken.{unit_taken}
 use Rattle.single_path.specs.Single.{single, with_calls, weights_in, frames_in}
-use Rattle.single_path.proofs.Ends.{ends_of}
-use Rattle.single_path.proofs.Formed.{named_small}
 
--- of valid programs they are told whole
-weights_told : (cores own : ℕ) (names : List Named) (at : ℕ) (items : List PlainItem)
-    → IsTrue (has_none (items_faults cores own names at items))
-    → map capped (weights_in items) ≡ weights_in items
-weights_told cores own names at [] none = refl
-weights_told cores own names at (global g ∷ items) none =
-    weights_told cores own (with_item names (global g)) (at + item_size (global g)) items
-    (none_right (item_faults cores own names at (global g)) _ none)
-weights_told cores own names at (function kind text void_word parameters body ∷ items) none =
-    let f = function kind text void_word parameters body in
-    let name_at = at + length (gives_tokens kind) in
-    let small = named_small names name_at text parameters body
-    (none_left (named_faults names name_at text parameters body) _
-    (none_left (item_faults cores own names at f) _ none)) in
-    ap₂ (λ x xs. x ∷ xs) (omega (arith, small.heavy))
-    (weights_told cores own (with_item names f) (at + item_size f) items
-    (none_right (item_faults cores own names at f) _ none))
+-- ---- of a valid program
 
-frames_told : (cores own : ℕ) (names : List Named) (at : ℕ) (items : List PlainItem)
-    → IsTrue (has_none (items_faults cores own names at items))
-    → map capped (frames_in items) ≡ frames_in items
-frames_told cores own names at [] none = refl
-frames_told cores own names at (global g ∷ items) none =
-    frames_told cores own (with_item names (global g)) (at + item_size (global g)) items
-    (none_right (item_faults cores own names at (global g)) _ none)
-frames_told cores own names at (function kind text void_word parameters body ∷ items) none =
-    let f = function kind text void_word parameters body in
-    let name_at = at + length (gives_tokens kind) in
-    let small = named_small names name_at text parameters body
-    (none_left (named_faults names name_at text parameters body) _
-    (none_left (item_faults cores own names at f) _ none)) in
-    ap₂ (λ x xs. x ∷ xs) (omega (arith, small.frame))
-    (frames_told cores own (with_item names f) (at + item_size f) items
-    (none_right (item_faults cores own names at f) _ none))
+-- none is heavier than a function may be
+weights_within : (cores own : ℕ) (names : List Named) (items : List PlainItem) → ItemsTyped cores own names items
+    → Each (λ w. w ≤ MOST_FUNCTION_WEIGHT) (weights_in items)
+weights_within cores own names [] typed = tt
+weights_within cores own names (global g ∷ items) typed =
+    weights_within cores own (with_item names (global g)) items typed.1
+weights_within cores own names (function kind text void_word parameters body ∷ items) typed = (
+  typed.0.light,
+  weights_within cores own (with_item names (function kind text void_word parameters body)) items
+      typed.1,
+)
+
+-- none has more words in its frame
+frames_within : (cores own : ℕ) (names : List Named) (items : List PlainItem) → ItemsTyped cores own names items
+    → Each (λ w. w ≤ MOST_FRAME_WORDS) (frames_in items)
+frames_within cores own names [] typed = tt
+frames_within cores own names (global g ∷ items) typed =
+    frames_within cores own (with_item names (global g)) items typed.1
+frames_within cores own names (function kind text void_word parameters body ∷ items) typed = (
+  typed.0.framed,
+  frames_within cores own (with_item names (function kind text void_word parameters body)) items
+      typed.1,
+)
+
+within_at : (most : ℕ) (ws : List ℕ) → Each (λ w. w ≤ most) ws → (k : ℕ) → slice_index ws k ≤ most
+within_at most [] within k = omega arith
+within_at most (w ∷ ws) within zero = within.0
+within_at most (w ∷ ws) within (suc k) = within_at most ws within.1 k
+
+pub light : (cores own : ℕ) (items : List PlainItem) → IsValid items cores own → (k : ℕ)
+    → slice_index (weights_in items) k ≤ MOST_FUNCTION_WEIGHT
+light cores own items valid =
+    within_at MOST_FUNCTION_WEIGHT (weights_in items) (weights_within cores own given items
+    (typed_of cores own items valid).each)
+
+pub framed : (cores own : ℕ) (items : List PlainItem) → IsValid items cores own → (k : ℕ)
+    → slice_index (frames_in items) k ≤ MOST_FRAME_WORDS
+framed cores own items valid =
+    within_at MOST_FRAME_WORDS (frames_in items) (frames_within cores own given items
+    (typed_of cores own items valid).each)
+
+-- they are told whole
+told : (most : ℕ) (ws : List ℕ) → most < 2 ^ 32 → Each (λ w. w ≤ most) ws → map capped ws ≡ ws
+told most [] small within = refl
+told most (w ∷ ws) small within = ap₂ (λ x xs. x ∷ xs) (omega (arith, small, within.0)) (told most ws small within.1)
 
 if_same : {E : Type 0} (made : Result SpUnit E) (a b : PlainUnit) → a ≡ b → IfOk made (λ u. plain_unit u ≡ a)
     → IfOk made (λ u. plain_unit u ≡ b)
@@ -70,9 +82,11 @@ pub taken_same : {E : Type 0} (cores own : ℕ) (items : List PlainItem) → IsV
     ≡ map capped (weights_in shown) → frames ≡ map capped (frames_in shown)
     → IfOk made (λ u. plain_unit u ≡ unit_taken weights frames tree) → IfOk made (λ u. plain_unit u ≡ single items)
 taken_same cores own items valid shown same tree weights frames made is_tree is_weights is_frames =
-    let none = (ends_of cores own items valid).each in
-    let w = is_weights ∙ ap (λ x. map capped (weights_in x)) same ∙ weights_told cores own given 0 items none in
-    let f = is_frames ∙ ap (λ x. map capped (frames_in x)) same ∙ frames_told cores own given 0 items none in
+    let typed = (typed_of cores own items valid).each in
+    let w = is_weights ∙ ap (λ x. map capped (weights_in x)) same ∙ told MOST_FUNCTION_WEIGHT (weights_in items)
+    (omega arith) (weights_within cores own given items typed) in
+    let f = is_frames ∙ ap (λ x. map capped (frames_in x)) same ∙ told MOST_FRAME_WORDS (frames_in items)
+    (omega arith) (frames_within cores own given items typed) in
     if_same made (unit_taken weights frames tree) (single items) (λ i. unit_taken (w i) (f i) (is_tree i))
 
 -- ---- one function more, or a variable

@@ -3,38 +3,24 @@ use Rattle.std.proofs.Common.{◌≡◌, ℕ, suc, ◌+◌, ◌<◌, ◌==◌, B
 use Rattle.std.proofs.lemmas.Bool.{and_from, and_parts}
 use Rattle.std.proofs.lemmas.Slice.Eq.{bytes_eq-Decides}
 use Rattle.std.specs.Option.{option_or, option_map}
-use Rattle.std.specs.Prelude.{IsTrue, codes, ◌&&◌, ◌||◌}
-use Rattle.c_tree.specs.declared.checks.CheckFault.TheVariants as fault
+use Rattle.std.specs.Prelude.{codes, ◌&&◌, ◌||◌}
 use Rattle.c_tree.specs.declared.checks.Meaning.{Meaning}
-use Rattle.c_tree.specs.declared.statements.Kind.{Kind}
-use Rattle.c_tree.specs.declared.units.Parameter.{Parameter}
-use Rattle.c_tree.specs.Checks.{twice_faults}
 use Rattle.c_tree.specs.Layout.{layout_of}
-use Rattle.c_tree.specs.Names.{Found, Named, last_named, found, is_declared, declared, given, number_of}
-use Rattle.c_tree.specs.Plain.{PlainStmt, PlainItem, global, function}
-use Rattle.c_tree.specs.Sizes.{item_size}
-use Rattle.c_tree.specs.Tokens.{gives_tokens}
-use Rattle.c_tree.specs.Valid.{IsValid, has_none, means_of, function_means, named_faults, inner_faults, function_faults, item_faults, with_item, items_faults, gives_int, is_main, has_main}
+use Rattle.c_tree.specs.Names.{Found, Named, last_named, found, declared, given, number_of}
+use Rattle.c_tree.specs.Plain.{PlainItem, global, function}
+use Rattle.c_tree.specs.Valid.{IsValid, means_of, function_means, with_item, gives_int, is_main, has_main}
 use Rattle.sp_tree.specs.Formed.{entry_formed}
 use Rattle.sp_tree.specs.Statements.{no_function}
 use Rattle.c_meaning.specs.Resolve.{names_in, resolved_items, parameters_in}
 use Rattle.single_path.specs.Single.{with_calls, entry_of}
-use Rattle.single_path.proofs.Ends.{ends_of}
 use Rattle.single_path.proofs.Formed.{as_many, made_length}
 use Rattle.single_path.proofs.Functions.{made_at}
-use Rattle.c_tree.proofs.Faultless.{none_left, none_right, not_so}
-use Rattle.single_path.proofs.Valid.{found_last}
+use Rattle.c_tree.specs.Typed.{ItemsTyped, Typed}
+use Rattle.c_tree.proofs.Typing.{typed_of}
+use Rattle.single_path.proofs.FunctionNames.{found_last}
+use Rattle.single_path.proofs.OpenNames.{still_found}
 
 -- ---- names that are declared
-
-still_found : (text : List ℕ) (names : List Named) (name : List ℕ) (m : Meaning) → is_some (found text names) ≡ true
-    → is_some (found text (declared names name m)) ≡ true
-still_found text names name m h =
-    ap is_some (found_last text names (record { name = name; means = m })) ∙ by (bytes_eq name text)
-  where
-    by : (same : Bool) → is_some (if same then Some m else found text names) ≡ true
-    by true = refl
-    by false = h
 
 found_here : (text : List ℕ) (names : List Named) (name : List ℕ) (m : Meaning) → bytes_eq name text ≡ true
     → is_some (found text (declared names name m)) ≡ true
@@ -43,47 +29,27 @@ found_here text names name m same =
     ∙ ap (λ b. if b then Some m else found text names) same)
 
 -- a name that is declared already is no function's
-function_other : (cores own : ℕ) (names : List Named) (at : ℕ) (kind : Option Kind) (name : List ℕ) (void_word : Bool)
-    (parameters : List Parameter)
-    (body : List PlainStmt) → IsTrue (has_none (function_faults cores own names at kind name void_word parameters body))
-    → (text : List ℕ)
-    → is_some (found text names) ≡ true → bytes_eq name text ≡ false
-function_other cores own names at kind name void_word parameters body none text there = by (bytes_eq name text) refl
+other_name : (names : List Named) (name text : List ℕ) → found name names ≡ None → is_some (found text names) ≡ true
+    → bytes_eq name text ≡ false
+other_name names name text new there = by (bytes_eq name text) refl
   where
-    name_at : ℕ
-    name_at = at + length (gives_tokens kind)
-
-    new : is_some (found name names) ≡ false
-    new =
-        not_so (is_declared name 0 names) name_at fault.Twice
-        (none_left (twice_faults 0 names name_at name) _
-        (none_left (named_faults names name_at name parameters body)
-        (inner_faults cores own (declared names name (function_means true kind parameters)) name_at kind void_word
-        parameters body) none))
-
     by : (same : Bool) → bytes_eq name text ≡ same → bytes_eq name text ≡ false
     by false is = is
     by true is =
         absurd (true≢false (sym there ∙ ap (λ x. is_some (found x names)) (sym ((bytes_eq-Decides name text).0 is))
-        ∙ new))
+        ∙ ap is_some new))
 
-no_later : (cores own : ℕ) (names : List Named) (at : ℕ) (items : List PlainItem)
-    → IsTrue (has_none (items_faults cores own names at items))
+no_later : (cores own : ℕ) (names : List Named) (items : List PlainItem) → ItemsTyped cores own names items
     → (text : List ℕ) → is_some (found text names) ≡ true → (k : ℕ) → last_named (λ n. n) k text (names_in items) ≡ None
-no_later cores own names at [] none text there k = refl
-no_later cores own names at (global g ∷ items) none text there k =
-    let behind = items_faults cores own (with_item names (global g)) (at + item_size (global g)) items in
-    no_later cores own (with_item names (global g)) (at + item_size (global g)) items
-    (none_right (item_faults cores own names at (global g)) behind none) text
-    (still_found text names g.name (means_of g) there) k
-no_later cores own names at (function kind name void_word parameters body ∷ items) none text there k =
+no_later cores own names [] typed text there k = refl
+no_later cores own names (global g ∷ items) typed text there k =
+    no_later cores own (with_item names (global g)) items typed.1 text
+    (still_found names g.name text (means_of g) there) k
+no_later cores own names (function kind name void_word parameters body ∷ items) typed text there k =
     let f = function kind name void_word parameters body in
-    let behind = items_faults cores own (with_item names f) (at + item_size f) items in
-    let later = no_later cores own (with_item names f) (at + item_size f) items
-    (none_right (item_faults cores own names at f) behind none) text
-    (still_found text names name (function_means false kind parameters) there) (k + 1) in
-    let here = none_left (item_faults cores own names at f) behind none in
-    let other = function_other cores own names at kind name void_word parameters body here text there in
+    let later = no_later cores own (with_item names f) items typed.1 text
+    (still_found names name text (function_means false kind parameters) there) (k + 1) in
+    let other = other_name names name text typed.0.new there in
     let own_name : Found (List ℕ) = record { at = k; is = name } in
     ap (λ l. option_or l (if bytes_eq name text then Some own_name else None)) later
     ∙ ap (λ b. if b then Some own_name else None) other
@@ -96,18 +62,14 @@ record MainFrom (k : ℕ) (items : List PlainItem) : Type 0 where
   within : number < length (parameters_in items)
   bare : slice_index (parameters_in items) number ≡ 0
 
-main_from : (cores own : ℕ) (names : List Named) (at : ℕ) (items : List PlainItem)
-    → IsTrue (has_none (items_faults cores own names at items))
+main_from : (cores own : ℕ) (names : List Named) (items : List PlainItem) → ItemsTyped cores own names items
     → has_main items ≡ true → (k : ℕ) → MainFrom k items
-main_from cores own names at [] none there k = absurd (true≢false (sym there))
-main_from cores own names at (global g ∷ items) none there k =
-    let behind = items_faults cores own (with_item names (global g)) (at + item_size (global g)) items in
-    let rest = main_from cores own (with_item names (global g)) (at + item_size (global g)) items
-    (none_right (item_faults cores own names at (global g)) behind none) there k in
+main_from cores own names [] typed there k = absurd (true≢false (sym there))
+main_from cores own names (global g ∷ items) typed there k =
+    let rest = main_from cores own (with_item names (global g)) items typed.1 there k in
     record { number = rest.number; is = rest.is; within = rest.within; bare = rest.bare }
-main_from cores own names at (function kind name void_word parameters body ∷ items) none there k =
-    by (is_main f) refl there (λ later. main_from cores own (with_item names f) (at + item_size f) items
-    none_behind later (k + 1))
+main_from cores own names (function kind name void_word parameters body ∷ items) typed there k =
+    by (is_main f) refl there (λ later. main_from cores own (with_item names f) items typed.1 later (k + 1))
   where
     f : PlainItem
     f = function kind name void_word parameters body
@@ -120,17 +82,13 @@ main_from cores own names at (function kind name void_word parameters body ∷ i
     later_meant None here n is = absurd (cc)
     later_meant (Some l) here n is = is
 
-    none_behind : IsTrue (has_none (items_faults cores own (with_item names f) (at + item_size f) items))
-    none_behind = none_right (item_faults cores own names at f) (items_faults cores own (with_item names f)
-        (at + item_size f) items) none
-
     by : (here : Bool) → is_main f ≡ here → (here || has_main items) ≡ true
         → (has_main items ≡ true → MainFrom (k + 1) items)
         → MainFrom k (f ∷ items)
     by true is some rest =
         let parts = and_parts (bytes_eq name (codes "main")) (gives_int kind && length parameters == 0) is in
         let bare = and_parts (gives_int kind) (length parameters == 0) parts.1 in
-        let last = no_later cores own (with_item names f) (at + item_size f) items none_behind (codes "main")
+        let last = no_later cores own (with_item names f) items typed.1 (codes "main")
         (found_here (codes "main") names name (function_means false kind parameters) parts.0) (k + 1) in
         record {
           number = 0;
@@ -161,8 +119,8 @@ pub record MainThere (items : List PlainItem) : Type 0 where
 
 pub main_there : (cores own : ℕ) (items : List PlainItem) → IsValid items cores own → MainThere items
 main_there cores own items valid =
-    let ends = ends_of cores own items valid in
-    let main = main_from cores own given 0 items ends.each ends.main 0 in
+    let typed : Typed cores own items = typed_of cores own items valid in
+    let main = main_from cores own given items typed.each typed.main 0 in
     record {
       number = main.number;
       is = main.is ∙ ap Some (omega arith);

@@ -1,5 +1,5 @@
 -- What the tree of a valid program comes to is what the program means.
-use Rattle.std.proofs.Common.{◌≡◌, ℕ, List, [], length, ap, ap₂, sym, ◌∙◌, arith}
+use Rattle.std.proofs.Common.{◌≡◌, ℕ, ◌≤◌, List, [], length, ap, ap₂, sym, ◌∙◌, arith}
 use Rattle.c_tree.specs.Layout.{layout_of}
 use Rattle.c_tree.specs.Plain.{PlainItem}
 use Rattle.c_tree.specs.Valid.{IsValid}
@@ -15,13 +15,15 @@ use Rattle.c_meaning.proofs.Programs.{program_means}
 use Rattle.single_path.specs.Meant.{IsMeant}
 use Rattle.single_path.specs.Single.{entry_of, made_functions, with_calls}
 use Rattle.single_path.proofs.Calling.{Serving}
-use Rattle.single_path.proofs.Formed.{as_many, functions_fit, made_length}
-use Rattle.single_path.proofs.Functions.{Callable, functions_serve}
+use Rattle.single_path.proofs.Formed.{as_many, functions_sound, made_length}
+use Rattle.single_path.proofs.Functions.{functions_serve}
+use Rattle.single_path.proofs.Sound.{Callable}
 use Rattle.single_path.proofs.Main.{MainThere, main_there}
 
-pub meant : (cores own : ℕ) (items : List PlainItem) → IsValid items cores own → (input : List ℕ) (shared comm : ℕ → ℕ)
+pub meant : (cores own : ℕ) (items : List PlainItem) → cores ≤ 16 → IsValid items cores own → (input : List ℕ)
+    (shared comm : ℕ → ℕ)
     → IsMeant (begins.straight (with_calls items) input shared comm) (meaning items input shared comm)
-meant cores own items valid input shared comm = record {
+meant cores own items few valid input shared comm = record {
   value = ap (λ (g : straight.Outcome). g.value) entered ∙ serving.value main.number [] world callable
       ∙ sym (ap (λ (g : Outcome). g.value) means);
   world = ap (λ (g : straight.Outcome). g.world) entered ∙ serving.world main.number [] world callable
@@ -45,7 +47,8 @@ meant cores own items valid input shared comm = record {
 
     serving : Serving (Callable counts (length bodies)) (resolved.serves bodies (length bodies))
         (straight.serves (made_functions counts bodies) (length bodies))
-    serving = functions_serve counts bodies same (functions_fit cores own items valid) (length bodies) (omega arith)
+    serving = functions_serve counts bodies same
+        (λ k within. (functions_sound cores own items few valid k within).sound) (length bodies) (omega arith)
 
     callable : Callable counts (length bodies) main.number 0
     callable = (main.within, sym main.bare)

@@ -1,32 +1,26 @@
 -- What resolved expressions, arguments and targets name outside of frames is there, and registers suffice for them.
 use Rattle.std.proofs.Common.{◌≡◌, ℕ, ◌+◌, ◌≤◌, max, Bool, true, false, if◌then◌else◌, List, [], ◌∷◌, Option, refl, arith, le-leb, lt-ltb}
 use Rattle.std.proofs.lemmas.Bool.{and_from, ltb-true, ltb-false}
-use Rattle.std.proofs.lemmas.Bool.Decides.{nat_tests}
 use Rattle.std.specs.List.{AllByRecursion as Each}
-use Rattle.std.specs.Prelude.{IsTrue, nat_lt, ⊤}
-use Rattle.c_tree.specs.declared.checks.CheckFault.TheVariants as fault
+use Rattle.std.specs.Prelude.{nat_lt, ⊤}
 use Rattle.c_tree.specs.declared.expressions.BinaryOp.{BinaryOp}
 use Rattle.c_tree.specs.declared.expressions.UnaryOp.{UnaryOp}
 use Rattle.c_tree.specs.declared.expressions.UnaryOp.TheVariants as unary
-use Rattle.c_tree.specs.Checks.{expr_faults, whole_faults, args_faults}
 use Rattle.c_tree.specs.Depth.{expr_depth, steps_depth}
-use Rattle.c_tree.specs.Least.{where_so}
 use Rattle.c_tree.specs.Names.{Named}
 use Rattle.c_tree.specs.Plain.{PlainExpr, PlainSteps}
 use Rattle.c_tree.specs.Plain as plain
-use Rattle.c_tree.specs.Sizes.{argument_size}
-use Rattle.c_tree.specs.Valid.{has_none}
+use Rattle.c_tree.specs.Typed.{WholeTyped}
 use Rattle.sp_tree.specs.Formed.{cell_formed, array_formed, names_words, expr_formed, args_formed}
 use Rattle.sp_tree.specs.Need.{need, both_need}
 use Rattle.sp_tree.specs.Plain.{PlainSp, constant, frame_word, cell_word, array_word, before_one, between_two}
 use Rattle.c_meaning.specs.Operators.{works_unsigned, gives_unsigned}
-use Rattle.c_meaning.specs.Resolve.{operator_of, is_exchanged, resolved_between, resolved_sign, resolved_signs, is_fresh, resolved_variable, resolved_element, resolved, resolved_steps, resolved_args}
+use Rattle.c_meaning.specs.Resolve.{operator_of, is_exchanged, resolved_between, resolved_sign, resolved_signs, is_fresh, resolved_variable, resolved_element, resolved, resolved_steps}
 use Rattle.c_meaning.specs.Scope.{Stands, level, outside}
 use Rattle.c_meaning.specs.Scope as scope
 use Rattle.c_meaning.specs.Values.{Names, named, expr_unsigned}
 use Rattle.single_path.specs.Widths.{expr_words, args_words}
 use Rattle.single_path.proofs.Placed.{SlotFits, slot_cell_formed, slot_array_formed, StandsFit, named_fits}
-use Rattle.c_tree.proofs.Faultless.{none_left, none_right, not_so}
 
 -- ---- what is named outside of frames
 
@@ -190,29 +184,12 @@ sound_constant n = record { ranged = tt; few = omega arith }
 pub sound_word : (slot : ℕ) → Sound (frame_word slot)
 sound_word slot = record { ranged = tt; few = omega arith }
 
-pub whole_sound : (of : Names) → Each SlotFits of.slots → (fresh : Option ℕ) (names : List Named) (at : ℕ)
-    (e : PlainExpr)
-    → IsTrue (has_none (whole_faults names at e)) → Sound (resolved of fresh e)
-whole_sound of each fresh names at e none = record {
+pub whole_sound : (of : Names) → Each SlotFits of.slots → (fresh : Option ℕ) (names : List Named) (e : PlainExpr)
+    → WholeTyped names e → Sound (resolved of fresh e)
+whole_sound of each fresh names e typed = record {
   ranged = resolved_ranged of each fresh e;
-  few = omega (arith, resolved_need of fresh e, within);
+  few = omega (arith, resolved_need of fresh e, typed.0);
 }
-  where
-    within : expr_depth e ≤ 12
-    within =
-        let deep = where_so (nat_lt 12 (expr_depth e)) at fault.Deep in
-        let flat = not_so (nat_lt 12 (expr_depth e)) at fault.Deep (none_left deep (expr_faults names at e) none) in
-        grind (arith, nat_tests, flat)
-
-pub args_sound : (of : Names) → Each SlotFits of.slots → (fresh : Option ℕ) (names : List Named) (at : ℕ)
-    (args : List PlainExpr)
-    → IsTrue (has_none (args_faults names at args)) → Each Sound (resolved_args of fresh args)
-args_sound of each fresh names at [] none = tt
-args_sound of each fresh names at (e ∷ args) none =
-    let rest = args_faults names (at + argument_size e) args in (
-      whole_sound of each fresh names at e (none_left (whole_faults names at e) rest none),
-      args_sound of each fresh names (at + argument_size e) args (none_right (whole_faults names at e) rest none),
-    )
 
 -- ---- what is sound is well formed over the words that it names
 

@@ -1,24 +1,21 @@
 -- The names that the checks know, beside what the same names stand for: what is found as a variable may be read and
 -- set as one, and arrays as arrays. Each declaration keeps this.
-use Rattle.std.proofs.Common.{◌≡◌, ◌≢◌, ℕ, ◌+◌, Bool, true, false, if◌then◌else◌, List, [], ◌∷◌, ◌++◌, length, Option, Some, None, bytes_eq, refl, ap, sym, ◌∙◌, subst, append_assoc, append-nil}
+use Rattle.std.proofs.Common.{◌≡◌, ◌≢◌, ℕ, ◌+◌, Bool, true, false, if◌then◌else◌, List, [], ◌∷◌, ◌++◌, length, Option, Some, None, is_some, bytes_eq, refl, ap, sym, ◌∙◌, subst, append_assoc, append-nil}
 use Rattle.c_tree.specs.declared.checks.Meaning.{Meaning}
 use Rattle.c_tree.specs.declared.checks.Meaning.TheVariants as means
 use Rattle.c_tree.specs.declared.layout.Slot.{Slot}
 use Rattle.c_tree.specs.declared.statements.Kind.{Kind}
 use Rattle.c_tree.specs.declared.units.Parameter.{Parameter}
-use Rattle.c_tree.specs.Checks.{after}
 use Rattle.c_tree.specs.Layout.{is_unsigned}
 use Rattle.c_tree.specs.Names.{Found, Named, found, declared}
 use Rattle.c_tree.proofs.LastNamed.{last_pushed}
-use Rattle.c_tree.specs.Plain.{PlainStmt}
-use Rattle.c_tree.specs.Plain as plain
 use Rattle.c_tree.specs.Valid.{with_parameters}
 use Rattle.sp_tree.specs.Uses.{Use, sends_to}
-use Rattle.c_meaning.specs.Meaning.{with_variable, names_after, parameter_variables}
+use Rattle.c_meaning.specs.Meaning.{with_variable, parameter_variables}
 use Rattle.c_meaning.specs.Scope.{Variable, Stands, level, among_variables, among_slots}
 use Rattle.c_meaning.specs.Values.{Names, named}
 use Rattle.single_path.proofs.Resolving.{Outside, CellRead, ArrayRead, CellWritten, ArrayWritten}
-use Rattle.single_path.proofs.Valid.{found_last}
+use Rattle.single_path.proofs.FunctionNames.{found_last}
 
 -- ---- what is kept
 
@@ -44,6 +41,16 @@ pub found_before : (names : List Named) (name text : List ℕ) (m : Meaning) (f 
 found_before names name text m f is other =
     ap (λ b. if b then Some m else found text names) (sym other)
     ∙ sym (found_last text names (record { name = name; means = m })) ∙ is
+
+-- a name that is known is known after each declaration
+pub still_found : (names : List Named) (name text : List ℕ) (m : Meaning) → is_some (found text names) ≡ true
+    → is_some (found text (declared names name m)) ≡ true
+still_found names name text m known =
+    ap is_some (found_last text names (record { name = name; means = m })) ∙ by (bytes_eq name text)
+  where
+    by : (same : Bool) → is_some (if same then Some m else found text names) ≡ true
+    by true = refl
+    by false = known
 
 -- ---- names after a variable
 
@@ -86,12 +93,6 @@ keeps_variable P names of kind name k = record {
         → bytes_eq name text ≡ false
         → found text names ≡ Some m
     before text m is other = found_before names name text means.Scalar (Some m) is other
-
--- after a statement
-pub keeps_after : (P : Use → Type 0) (names : List Named) (of : Names) (s : PlainStmt) → Keeps P names of
-    → Keeps P (after names s) (names_after of s)
-keeps_after P names of (plain.declared kind text r) k = keeps_variable P names of kind text k
-keeps_after P names of _ k = k
 
 -- ---- names after a function's name, and after its parameters
 

@@ -1,19 +1,18 @@
--- What resolved names, operators, assignments and calls do with memories: no more than their parts, and what the slot
--- of a name is read or set as.
-use Rattle.std.proofs.Common.{ℕ, Bool, true, false, if◌then◌else◌, List, [], ◌∷◌, Option, None, Some}
+-- What resolved names and operators do with memories: no more than their parts, and what the slot of a name is read or
+-- set as.
+use Rattle.std.proofs.Common.{ℕ, Bool, true, false, if◌then◌else◌, List, [], ◌∷◌, Option}
 use Rattle.std.specs.Prelude.{⊤}
-use Rattle.std.specs.List.{AllByRecursion as Each}
 use Rattle.c_tree.specs.declared.expressions.BinaryOp.{BinaryOp}
 use Rattle.c_tree.specs.declared.expressions.UnaryOp.{UnaryOp}
 use Rattle.c_tree.specs.declared.expressions.UnaryOp.TheVariants as unary
 use Rattle.c_tree.specs.declared.layout.Slot.{Slot}
 use Rattle.sp_tree.specs.Plain.{PlainSp, constant, frame_word, between_two}
 use Rattle.sp_tree.specs.Uses.{Use, reads_cell, reads_array, writes_cell, writes_array}
-use Rattle.c_meaning.specs.Actions.{PlainTarget, PlainActions, no_action, action, PlainBranches, no_branch, branch, joined}
-use Rattle.c_meaning.specs.Resolve.{operator_of, is_exchanged, resolved_between, resolved_sign, resolved_signs, slot_cell, slot_array, is_fresh, resolved_variable, resolved_element, variable_target, element_target, assignment_to, maybe_sets, numbered_call, choice}
+use Rattle.c_meaning.specs.Resolve.{operator_of, is_exchanged, resolved_between, resolved_sign, resolved_signs, slot_cell, slot_array, is_fresh, resolved_variable, resolved_element, variable_target, element_target}
 use Rattle.c_meaning.specs.Scope.{Stands, level, outside}
 use Rattle.c_meaning.specs.Scope as scope
-use Rattle.single_path.proofs.Doing.{ExprDoes, ResultDoes, StepDoes, Do, BranchesDo}
+use Rattle.single_path.proofs.Acts.{Gives}
+use Rattle.single_path.proofs.Doing.{ExprDoes, TargetDoes}
 
 -- ---- names
 
@@ -54,14 +53,14 @@ element_does P (outside slot) index may does = (may, does)
 element_does P scope.nothing index may does = tt
 
 pub variable_target_does : (P : Use → Type 0) (stands : Stands) → Outside (CellWritten P) stands
-    → ResultDoes P (variable_target stands)
+    → Gives (TargetDoes P) (variable_target stands)
 variable_target_does P (level at unsigned) may = tt
 variable_target_does P (outside slot) may = may
 variable_target_does P scope.nothing may = tt
 
 pub element_target_does : (P : Use → Type 0) (stands : Stands) (index : PlainSp) → Outside (ArrayWritten P) stands
     → ExprDoes P index
-    → ResultDoes P (element_target stands index)
+    → Gives (TargetDoes P) (element_target stands index)
 element_target_does P (level at unsigned) index may does = tt
 element_target_does P (outside slot) index may does = (may, does)
 element_target_does P scope.nothing index may does = tt
@@ -84,31 +83,3 @@ sign_does P _ e does = does
 pub signs_do : (P : Use → Type 0) (ops : List UnaryOp) (e : PlainSp) → ExprDoes P e → ExprDoes P (resolved_signs ops e)
 signs_do P [] e does = does
 signs_do P (op ∷ ops) e does = sign_does P op (resolved_signs ops e) (signs_do P ops e does)
-
--- ---- assignments, calls, and actions one after another
-
-pub assigned_does : (P : Use → Type 0) (target : Option PlainTarget) (e : PlainSp) → ResultDoes P target → ExprDoes P e
-    → StepDoes P (assignment_to target e)
-assigned_does P None e may does = tt
-assigned_does P (Some target) e may does = (may, does)
-
-pub sets_do : (P : Use → Type 0) (target : Option PlainTarget) (e : PlainSp) → ResultDoes P target → ExprDoes P e
-    → Do P (maybe_sets (assignment_to target e))
-sets_do P None e may does = tt
-sets_do P (Some target) e may does = ((may, does), tt)
-
-pub numbered_does : (P : Use → Type 0) (k : Option ℕ) (args : List PlainSp) (target : Option PlainTarget)
-    → Each (ExprDoes P) args
-    → ResultDoes P target → Do P (numbered_call k args target)
-numbered_does P None args target given may = sets_do P target (constant 0) may tt
-numbered_does P (Some k) args target given may = ((given, may), tt)
-
-pub actions_joined : (P : Use → Type 0) (xs ys : PlainActions) → Do P xs → Do P ys → Do P (joined xs ys)
-actions_joined P no_action ys hx hy = hy
-actions_joined P (action a xs) ys hx hy = (hx.0, actions_joined P xs ys hx.1 hy)
-
-pub choice_does : (P : Use → Type 0) (branches : PlainBranches) (otherwise : PlainActions) → BranchesDo P branches
-    → Do P otherwise
-    → Do P (choice branches otherwise)
-choice_does P no_branch otherwise some last = last
-choice_does P (branch condition body rest) otherwise some last = ((some, last), tt)

@@ -1,14 +1,9 @@
 -- The tree of a valid program with the calls that it takes in: each promise of the tree is one of it.
-use Rattle.std.proofs.Common.{◌≡◌, ℕ, zero, suc, ◌+◌, ◌<◌, ◌≤◌, Bool, true, false, ◌||◌, List, [], ◌∷◌, length, slice_index, slice_index_or, refl, ap, sym, ◌∙◌, arith, true≢false}
-use Rattle.std.specs.Prelude.{IsTrue}
+use Rattle.std.proofs.Common.{◌≡◌, ℕ, ◌<◌, ◌≤◌, Bool, true, false, ◌||◌, List, [], ◌∷◌, length, slice_index, slice_index_or, refl, ap, sym, ◌∙◌, arith, true≢false}
 use Rattle.std.specs.List.{AllByRecursion as Each, list_any}
 use Rattle.c_tree.specs.Layout.{layout_of}
-use Rattle.c_tree.specs.Names.{Named, given}
-use Rattle.c_tree.specs.Plain.{PlainItem, global, function}
-use Rattle.c_tree.specs.Sizes.{item_size}
-use Rattle.c_tree.specs.Tokens.{gives_tokens}
-use Rattle.c_tree.specs.Valid.{IsValid, has_none, named_faults, item_faults, items_faults, with_item}
-use Rattle.c_tree.proofs.Faultless.{none_left, none_right}
+use Rattle.c_tree.specs.Plain.{PlainItem}
+use Rattle.c_tree.specs.Valid.{IsValid}
 use Rattle.sp_tree.specs.Begun.{straight}
 use Rattle.sp_tree.specs.Cost.{cost}
 use Rattle.sp_tree.specs.Formed.{is_formed}
@@ -26,38 +21,17 @@ use Rattle.single_path.specs.Meant.{IsMeant}
 use Rattle.single_path.specs.Single.{single, with_calls, weights_in, frames_in}
 use Rattle.single_path.specs.Used.{reads_region, writes_region, is_send_to, memory_of}
 use Rattle.single_path.proofs.Budgets.{costs_within, frames_within}
-use Rattle.single_path.proofs.Ends.{ends_of}
-use Rattle.single_path.proofs.Formed.{functions_are_formed, named_small}
+use Rattle.single_path.proofs.Formed.{functions_are_formed}
+use Rattle.single_path.proofs.Limited.{framed}
 use Rattle.single_path.proofs.Meant.{meant}
 use Rattle.single_path.proofs.Used.{reads_only_mentioned, writes_only_assigned, sends_only_sent}
 use Rattle.single_path.proofs.Whole.{single_is_formed}
-
--- ---- the frames that the checks count
-
-frames_small : (cores own : ℕ) (names : List Named) (at : ℕ) (items : List PlainItem)
-    → IsTrue (has_none (items_faults cores own names at items)) → (k : ℕ)
-    → slice_index (frames_in items) k ≤ 120
-frames_small cores own names at [] none k = omega arith
-frames_small cores own names at (global g ∷ items) none k =
-    frames_small cores own (with_item names (global g)) (at + item_size (global g)) items
-    (none_right (item_faults cores own names at (global g)) _ none) k
-frames_small cores own names at (function kind text void_word parameters body ∷ items) none zero =
-    let f = function kind text void_word parameters body in
-    let name_at = at + length (gives_tokens kind) in
-    (named_small names name_at text parameters body
-    (none_left (named_faults names name_at text parameters body) _ (none_left (item_faults cores own names at f)
-    _ none))).frame
-frames_small cores own names at (function kind text void_word parameters body ∷ items) none (suc k) =
-    let f = function kind text void_word parameters body in
-    frames_small cores own (with_item names f) (at + item_size f) items
-    (none_right (item_faults cores own names at f) _ none) k
 
 roomy : (cores own : ℕ) (items : List PlainItem) → IsValid items cores own
     → Roomy (frames_in items) (with_calls items).functions (length (with_calls items).functions)
 roomy cores own items valid = record {
   within = λ k below. frames_within (layout_of items) [] items k below;
-  small = λ k below. (let room = frames_small cores own given 0 items (ends_of cores own items valid).each k in
-      omega (arith, room));
+  small = λ k below. (let room = framed cores own items valid k in omega (arith, room));
 }
 
 -- ---- what is promised
@@ -68,12 +42,12 @@ taken_is_formed cores own items few valid =
     unit_formed (weights_in items) (frames_in items) (with_calls items) (roomy cores own items valid)
     (single_is_formed cores own items few valid)
 
-pub taken_meant : (cores own : ℕ) (items : List PlainItem) → IsValid items cores own → (input : List ℕ)
+pub taken_meant : (cores own : ℕ) (items : List PlainItem) → cores ≤ 16 → IsValid items cores own → (input : List ℕ)
     (shared comm : ℕ → ℕ)
     → IsMeant (straight (single items) input shared comm) (meaning items input shared comm)
-taken_meant cores own items valid input shared comm =
+taken_meant cores own items few valid input shared comm =
     let same = taken_straight (weights_in items) (frames_in items) (with_calls items) input shared comm in
-    let m = meant cores own items valid input shared comm in
+    let m = meant cores own items few valid input shared comm in
     record { value = ap (λ g. g.value) same ∙ m.value; world = ap (λ g. g.world) same ∙ m.world }
 
 -- a function keeps to its weight and its frame

@@ -2,7 +2,7 @@
 use Rattle.std.proofs.Common.{◌≡◌, ℕ, Bool, true, false, if◌then◌else◌, refl}
 use Rattle.c_world.specs.Numbers.{flag, is_true}
 use Rattle.sp_tree.specs.Operators.{unary_value, binary_value}
-use Rattle.sp_tree.specs.Plain.{PlainSp, constant, frame_word, cell_word, array_word, before_one, between_two}
+use Rattle.sp_tree.specs.Plain.{PlainSp, before_one, between_two}
 use Rattle.sp_tree.specs.Straight.{State, worth}
 use Rattle.sp_tree.specs.declared.operators.SpUnary.{SpUnary}
 use Rattle.sp_tree.specs.declared.operators.SpUnary.TheVariants as unary

@@ -19,17 +19,17 @@ use Rattle.c_meaning.specs.Actions as actions
 use Rattle.c_meaning.specs.Meaning.{with_variable, names_after, most_iterations, parameter_variables}
 use Rattle.c_meaning.specs.Operators.{works_unsigned, gives_unsigned}
 use Rattle.c_tree.specs.Names.{number_of}
-use Rattle.c_meaning.specs.Resolve.{resolved, resolved_steps, resolved_args, resolved_between, resolved_right, resolved_begin, resolved_condition, resolved_next, resolved_stmt, resolved_block, resolved_arms, resolved_otherwise, resolved_body, resolved_items, maybe_sets, variable_target, element_target, slot_cell, slot_array, parameters_in}
-use Rattle.c_meaning.specs.Scope.{level, outside, slot_region}
-use Rattle.c_meaning.specs.Scope as scope
+use Rattle.c_meaning.specs.Resolve.{resolved, resolved_steps, resolved_args, resolved_between, resolved_right, assignment_to, resolved_begin, resolved_condition, resolved_next, resolved_stmt, resolved_block, resolved_arms, resolved_otherwise, resolved_body, resolved_items, maybe_sets, variable_target, element_target, slot_cell, slot_array, parameters_in}
+use Rattle.c_meaning.specs.Scope.{outside, slot_region}
 use Rattle.c_meaning.specs.Values.{Names, named, expr_unsigned}
 use Rattle.c_mentions.specs.Mentions.{Array, comm_array, shared_array, is_at, is_mention, is_assignment, is_send, mentions, assigns, sends_to}
 use Rattle.c_mentions.specs.Uses.{reads, sets, sends, expr_uses, steps_uses, args_uses, right_uses, head_uses, stmt_uses, block_uses, arms_uses, otherwise_uses, body_uses, items_uses, program_uses}
 use Rattle.c_mentions.specs.Uses as source
 use Rattle.single_path.specs.Single.{with_calls}
 use Rattle.single_path.specs.Used.{IsMadeTo, ComesFrom, same_region, reads_region, writes_region, is_send_to, memory_of}
-use Rattle.single_path.proofs.Doing.{ExprDoes, ResultDoes, StepDoes, Do, BranchesDo, functions_do}
-use Rattle.single_path.proofs.Resolving.{Outside, CellRead, ArrayRead, CellWritten, ArrayWritten, variable_does, element_does, variable_target_does, element_target_does, between_does, signs_do, assigned_does, sets_do, numbered_does, actions_joined, choice_does}
+use Rattle.single_path.proofs.Acts.{Gives, Steps, AnyDo, joined_do, choice_does, assignment_does, sets_do, call_does}
+use Rattle.single_path.proofs.Doing.{ExprDoes, TargetDoes, uses, AllDo, functions_do}
+use Rattle.single_path.proofs.Resolving.{Outside, CellRead, ArrayRead, CellWritten, ArrayWritten, variable_does, element_does, variable_target_does, element_target_does, between_does, signs_do}
 
 -- ---- a property of all that a use of the program is made to
 
@@ -81,26 +81,29 @@ args_used P names fresh (e ∷ args) all = (
 
 right_used : (P : Use → Type 0) (fs : List (List ℕ)) (names : Names) (fresh : Option ℕ) (target : Option PlainTarget)
     (r : PlainRight)
-    → ResultDoes P target → Each (Allows P) (right_uses names r) → Do P (resolved_right fs names fresh target r)
+    → Gives (TargetDoes P) target → Each (Allows P) (right_uses names r)
+    → AllDo P (resolved_right fs names fresh target r)
 right_used P fs names fresh target (plain.value e) may all =
-    sets_do P target (resolved names fresh e) may (expr_used P names fresh e all)
+    sets_do (uses P) true (assignment_to target (resolved names fresh e))
+    (assignment_does (uses P) target (resolved names fresh e) may (expr_used P names fresh e all))
 right_used P fs names fresh target (plain.call text args) may all =
-    numbered_does P (number_of text fs) (resolved_args names fresh args) target (args_used P names fresh args all) may
+    call_does (uses P) true (number_of text fs) (resolved_args names fresh args) target tt (λ number is. tt)
+    (args_used P names fresh args all) may
 
 head_used : (P : Use → Type 0) (names : Names) (head : PlainHead) → Each (Allows P) (head_uses names head)
-    → Do P (maybe_sets (resolved_begin names head)) × ExprDoes P (resolved_condition names head)
-    × StepDoes P (resolved_next names head)
+    → Steps (TargetDoes P) (ExprDoes P) (resolved_begin names head) × ExprDoes P (resolved_condition names head)
+    × Steps (TargetDoes P) (ExprDoes P) (resolved_next names head)
 head_used P names (plain.iterations_while condition) all = (tt, expr_used P names None condition all, tt)
 head_used P names (plain.iterations_for first from condition to_set to) all =
     let last = sets (named names to_set) ∷ expr_uses names to in
     let others = each_rest (Allows P) (expr_uses names from) (expr_uses names condition ++ last) all.1 in
     let stepped = each_rest (Allows P) (expr_uses names condition) last others in (
-      sets_do P (variable_target (named names first)) (resolved names None from)
+      assignment_does (uses P) (variable_target (named names first)) (resolved names None from)
           (variable_target_does P (named names first) all.0.0)
           (expr_used P names None from (each_first (Allows P) (expr_uses names from) (expr_uses names condition
           ++ last) all.1)),
       expr_used P names None condition (each_first (Allows P) (expr_uses names condition) last others),
-      assigned_does P (variable_target (named names to_set)) (resolved names None to)
+      assignment_does (uses P) (variable_target (named names to_set)) (resolved names None to)
           (variable_target_does P (named names to_set) stepped.0.0)
           (expr_used P names None to stepped.1),
     )
@@ -110,7 +113,7 @@ head_used P names (plain.iterations_for first from condition to_set to) all =
 mutual
   stmt_used : (P : Use → Type 0) (fs : List (List ℕ)) (names : Names) (s : PlainStmt)
       → Each (Allows P) (stmt_uses names s)
-      → Do P (resolved_stmt fs names s)
+      → AllDo P (resolved_stmt fs names s)
   stmt_used P fs names (plain.declared kind text None) all = ((tt, tt), tt)
   stmt_used P fs names (plain.declared kind text (Some r)) all =
       let at = length names.variables in
@@ -126,7 +129,8 @@ mutual
       (element_target_does P (named names text) i all.0.1 inner)
       (each_rest (Allows P) (expr_uses names index) (right_uses names r) all.1)
   stmt_used P fs names (plain.called text args) all =
-      numbered_does P (number_of text fs) (resolved_args names None args) None (args_used P names None args all) tt
+      call_does (uses P) true (number_of text fs) (resolved_args names None args) None tt (λ number is. tt)
+      (args_used P names None args all) tt
   stmt_used P fs names (plain.sent core core_unsigned from to count) all =
       let others = each_rest (Allows P) (expr_uses names from) (expr_uses names to ++ expr_uses names count) all.1 in (
         (
@@ -139,16 +143,16 @@ mutual
         tt,
       )
   stmt_used P fs names (plain.chosen arms otherwise) all =
-      choice_does P (resolved_arms fs names arms) (resolved_otherwise fs names otherwise)
+      choice_does (uses P) true (resolved_arms fs names arms) (resolved_otherwise fs names otherwise)
       (arms_used P fs names arms (each_first (Allows P) (arms_uses names arms) (otherwise_uses names otherwise) all))
       (otherwise_used P fs names otherwise (each_rest (Allows P) (arms_uses names arms)
       (otherwise_uses names otherwise) all))
   stmt_used P fs names (plain.looped bound head body) all =
       let parts = head_used P names head (each_first (Allows P) (head_uses names head) (block_uses names body) all) in
-      actions_joined P (maybe_sets (resolved_begin names head))
+      joined_do (uses P) true (maybe_sets (resolved_begin names head))
       (actions.one (actions.iterations (most_iterations bound) (resolved_condition names head)
       (resolved_block fs names body) (resolved_next names head)))
-      parts.0 (
+      (sets_do (uses P) true (resolved_begin names head) parts.0) (
         (
           parts.1,
           block_used P fs names body (each_rest (Allows P) (head_uses names head) (block_uses names body)
@@ -159,21 +163,22 @@ mutual
       )
   stmt_used P fs names (plain.returned (Some e)) all = (expr_used P names None e all, tt)
   stmt_used P fs names (plain.inner body) all = block_used P fs names body all
-  stmt_used P fs names _ all = (tt, tt)
+  stmt_used P fs names (plain.returned None) all = (tt, tt)
+  stmt_used P fs names _ all = (refl, tt)
 
   block_used : (P : Use → Type 0) (fs : List (List ℕ)) (names : Names) (body : PlainBlock)
       → Each (Allows P) (block_uses names body)
-      → Do P (resolved_block fs names body)
+      → AllDo P (resolved_block fs names body)
   block_used P fs names plain.no_stmt all = tt
   block_used P fs names (plain.stmt s rest) all =
       let behind = names_after names s in
-      actions_joined P (resolved_stmt fs names s) (resolved_block fs behind rest)
+      joined_do (uses P) true (resolved_stmt fs names s) (resolved_block fs behind rest)
       (stmt_used P fs names s (each_first (Allows P) (stmt_uses names s) (block_uses behind rest) all))
       (block_used P fs behind rest (each_rest (Allows P) (stmt_uses names s) (block_uses behind rest) all))
 
   arms_used : (P : Use → Type 0) (fs : List (List ℕ)) (names : Names) (arms : PlainArms)
       → Each (Allows P) (arms_uses names arms)
-      → BranchesDo P (resolved_arms fs names arms)
+      → AnyDo (uses P) true (resolved_arms fs names arms)
   arms_used P fs names plain.no_arm all = tt
   arms_used P fs names (plain.arm condition body rest) all =
       let others =
@@ -185,7 +190,7 @@ mutual
       )
 
   otherwise_used : (P : Use → Type 0) (fs : List (List ℕ)) (names : Names) (otherwise : PlainOtherwise)
-      → Each (Allows P) (otherwise_uses names otherwise) → Do P (resolved_otherwise fs names otherwise)
+      → Each (Allows P) (otherwise_uses names otherwise) → AllDo P (resolved_otherwise fs names otherwise)
   otherwise_used P fs names plain.no_else all = tt
   otherwise_used P fs names (plain.or_else body) all = block_used P fs names body all
 
@@ -193,17 +198,17 @@ mutual
 
 body_used : (P : Use → Type 0) (fs : List (List ℕ)) (names : Names) (body : List PlainStmt)
     → Each (Allows P) (body_uses names body)
-    → Do P (resolved_body fs names body)
+    → AllDo P (resolved_body fs names body)
 body_used P fs names [] all = tt
 body_used P fs names (s ∷ rest) all =
     let behind = names_after names s in
-    actions_joined P (resolved_stmt fs names s) (resolved_body fs behind rest)
+    joined_do (uses P) true (resolved_stmt fs names s) (resolved_body fs behind rest)
     (stmt_used P fs names s (each_first (Allows P) (stmt_uses names s) (body_uses behind rest) all))
     (body_used P fs behind rest (each_rest (Allows P) (stmt_uses names s) (body_uses behind rest) all))
 
 items_used : (P : Use → Type 0) (slots : List Slot) (fs : List (List ℕ)) (items : List PlainItem)
     → Each (Allows P) (items_uses slots items)
-    → Each (Do P) (resolved_items slots fs items)
+    → Each (AllDo P) (resolved_items slots fs items)
 items_used P slots fs [] all = tt
 items_used P slots fs (plain.global of ∷ items) all = items_used P slots fs items all
 items_used P slots fs (plain.function kind its_name void_word parameters body ∷ items) all =

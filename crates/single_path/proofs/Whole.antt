@@ -7,7 +7,7 @@ use Rattle.c_tree.specs.Plain.{PlainItem}
 use Rattle.c_tree.specs.Valid.{IsValid}
 use Rattle.c_tree.specs.Names.{number_of}
 use Rattle.c_meaning.specs.Resolve.{names_in, resolved_items, parameters_in}
-use Rattle.c_tree.proofs.Faultless.{private_fits}
+use Rattle.c_tree.proofs.Typing.{typed_of}
 use Rattle.c_meaning.proofs.Fits.{input_within}
 use Rattle.sp_tree.specs.Formed.{is_formed}
 use Rattle.single_path.specs.Single.{entry_of, with_calls}
@@ -39,5 +39,5 @@ pub input_small : (cores own : ℕ) (items : List PlainItem) → IsValid items c
     × ((input_of items).room < 2 ^ 32)
 input_small cores own items valid =
     let input = input_within 4 items (omega arith) in
-    let private = private_fits cores own items valid in
+    let private = (typed_of cores own items valid).private in
     (omega (arith, input.1, private), omega (arith, input.1, private))

@@ -17,7 +17,7 @@ use crate::masks::{
     where_not_returned, where_on, where_so, word,
 };
 use crate::part_words::PartWords;
-use c_meaning::{Action, Assignment, Branch, Target};
+use c_meaning::{Action, Arguments, Assignment, Branch, Target};
 use sp_tree::{SpExpr, SpStmt, SpTarget, copied};
 use std::alloc::Global;
 use tc_word::{List, OutOfMemory};
@@ -77,80 +77,57 @@ fn add_iterations(out: &mut Vec<SpStmt>, count: u32, body: List<SpStmt>) -> Resu
 }
 
 // what an action sets
-fn target_of(alloc: Global, target: &Target) -> Result<SpTarget, OutOfMemory>
-    ensures { IfOk result (λ p. plain_sp_target p ≡ specs.made_target (plain_target target.now)) }
+fn target_of(target: Target) -> SpTarget
+    ensures { plain_sp_target result ≡ specs.made_target (plain_target target) }
 {
     match target {
-        Target::Variable { level } => Ok(SpTarget::Frame { slot: level.number }),
-        Target::Scalar { word } => Ok(SpTarget::Scalar { cell: word.cell }),
-        Target::Element { array, index } => {
-            let index = copied(alloc, index)?;
-            Ok(SpTarget::Element {
-                array: array.words,
-                index,
-            })
-        }
+        Target::Variable { level } => SpTarget::Frame { slot: level.number },
+        Target::Scalar { word } => SpTarget::Scalar { cell: word.cell },
+        Target::Element { array, index } => SpTarget::Element {
+            array: array.words,
+            index,
+        },
     }
 }
 
 fn add_assignment(
-    alloc: Global,
     out: &mut Vec<SpStmt>,
     mask: u32,
-    assignment: &Assignment,
+    assignment: Assignment,
 ) -> Result<(), OutOfMemory>
     ensures { OnOk result (stmts_of out.new.items
-        ≡ joined (stmts_of out.old.items) (one (specs.made_assignment mask (plain_assignment assignment.now)))) }
+        ≡ joined (stmts_of out.old.items) (one (specs.made_assignment mask (plain_assignment assignment)))) }
 {
-    let target = target_of(alloc, &assignment.target)?;
-    let value = copied(alloc, &assignment.value)?;
-    add_write(out, mask, target, value)
+    let Assignment { target, value } = assignment;
+    add_write(out, mask, target_of(target), value)
 }
 
 // what is set after each iteration
 #[tactic(auto, using(crate::proofs::Stated::joined_none))]
-fn add_step(
-    alloc: Global,
-    out: &mut Vec<SpStmt>,
-    mask: u32,
-    step: &Option<Assignment>,
-) -> Result<(), OutOfMemory>
+fn add_step(out: &mut Vec<SpStmt>, mask: u32, step: Option<Assignment>) -> Result<(), OutOfMemory>
     ensures { OnOk result (stmts_of out.new.items
-        ≡ joined (stmts_of out.old.items) (specs.made_step mask (option_map plain_assignment step.now))) }
+        ≡ joined (stmts_of out.old.items) (specs.made_step mask (option_map plain_assignment step))) }
 {
     match step {
         None => Ok(()),
-        Some(assignment) => add_assignment(alloc, out, mask, assignment),
+        Some(assignment) => add_assignment(out, mask, assignment),
     }
 }
 
 // ---- calls and sends
 
-fn arguments(alloc: Global, args: &[SpExpr]) -> Result<List<SpExpr>, OutOfMemory>
-    ensures { IfOk result (λ r. map plain_sp r ≡ map plain_sp args.now) }
-{
-    let mut values = Vec::new(alloc);
-    for e in args {
-        let e = copied(alloc, e)?;
-        values.push(e)?;
-    }
-    Ok(List::of(values))
-}
-
 // a call, with the word of the frame that is set to what the function gives
 #[tactic(auto, unfolding(sp_tree::specs::Shown::plain_stmt))]
 fn add_call_to(
-    alloc: Global,
     out: &mut Vec<SpStmt>,
     mask: u32,
     function: u32,
-    args: &[SpExpr],
+    args: List<SpExpr>,
     given: Option<u32>,
 ) -> Result<(), OutOfMemory>
     ensures { OnOk result (stmts_of out.new.items
-        ≡ joined (stmts_of out.old.items) (one (calls mask function (map plain_sp args.now) given))) }
+        ≡ joined (stmts_of out.old.items) (one (calls mask function (map plain_sp args) given))) }
 {
-    let args = arguments(alloc, args)?;
     add(
         out,
         SpStmt::Call {
@@ -164,26 +141,25 @@ fn add_call_to(
 
 #[tactic(auto, using(crate::proofs::Stated::joined_twice))]
 fn add_call(
-    alloc: Global,
     part: PartWords,
     out: &mut Vec<SpStmt>,
     function: u32,
-    args: &[SpExpr],
-    target: &Option<Target>,
+    args: Arguments,
+    target: Option<Target>,
 ) -> Result<(), OutOfMemory>
     ensures { OnOk result (stmts_of out.new.items
         ≡ joined (stmts_of out.old.items)
-        (specs.made_call part function (map plain_sp args.now) (option_map plain_target target.now))) }
+        (specs.made_call part function (map plain_sp args.values) (option_map plain_target target))) }
 {
+    let Arguments { values, .. } = args;
     match target {
-        None => add_call_to(alloc, out, part.own, function, args, None),
+        None => add_call_to(out, part.own, function, values, None),
         Some(Target::Variable { level }) => {
-            add_call_to(alloc, out, part.own, function, args, Some(level.number))
+            add_call_to(out, part.own, function, values, Some(level.number))
         }
         Some(target) => {
-            add_call_to(alloc, out, part.own, function, args, Some(part.free))?;
-            let outside = target_of(alloc, target)?;
-            add_write(out, part.own, outside, word(part.free))
+            add_call_to(out, part.own, function, values, Some(part.free))?;
+            add_write(out, part.own, target_of(target), word(part.free))
         }
     }
 }
@@ -193,18 +169,14 @@ fn add_send(
     out: &mut Vec<SpStmt>,
     mask: u32,
     core: u32,
-    source: &SpExpr,
-    target: &SpExpr,
-    count: &SpExpr,
+    source: SpExpr,
+    target: SpExpr,
+    count: SpExpr,
 ) -> Result<(), OutOfMemory>
     ensures { OnOk result (stmts_of out.new.items
         ≡ joined (stmts_of out.old.items)
-        (one (tree.transfers mask core (plain_sp source.now) (plain_sp target.now) (plain_sp count.now)))) }
+        (one (tree.transfers mask core (plain_sp source) (plain_sp target) (plain_sp count)))) }
 {
-    let alloc = *out.allocator();
-    let source = copied(alloc, source)?;
-    let target = copied(alloc, target)?;
-    let count = copied(alloc, count)?;
     add(
         out,
         SpStmt::Send {
@@ -231,20 +203,14 @@ fn is_zero(e: &SpExpr) -> bool
 }
 
 #[tactic(auto, using(crate::proofs::Stated::joined_none))]
-fn add_result(
-    alloc: Global,
-    part: PartWords,
-    out: &mut Vec<SpStmt>,
-    e: &SpExpr,
-) -> Result<(), OutOfMemory>
+fn add_result(part: PartWords, out: &mut Vec<SpStmt>, e: SpExpr) -> Result<(), OutOfMemory>
     ensures { OnOk result (stmts_of out.new.items
-        ≡ joined (stmts_of out.old.items) (specs.made_result part (plain_sp e.now))) }
+        ≡ joined (stmts_of out.old.items) (specs.made_result part (plain_sp e))) }
 {
-    if is_zero(e) {
+    if is_zero(&e) {
         return Ok(());
     }
-    let value = copied(alloc, e)?;
-    add_write(out, part.own, SpTarget::Frame { slot: part.result }, value)
+    add_write(out, part.own, SpTarget::Frame { slot: part.result }, e)
 }
 
 #[tactic(auto, using(crate::proofs::Stated::joined_one, crate::proofs::Stated::joined_two))]
@@ -252,12 +218,12 @@ fn add_return(
     alloc: Global,
     part: PartWords,
     out: &mut Vec<SpStmt>,
-    e: &SpExpr,
+    e: SpExpr,
 ) -> Result<(), OutOfMemory>
     ensures { OnOk result (stmts_of out.new.items
-        ≡ joined (stmts_of out.old.items) (specs.made_return part (plain_sp e.now))) }
+        ≡ joined (stmts_of out.old.items) (specs.made_return part (plain_sp e))) }
 {
-    add_result(alloc, part, out, e)?;
+    add_result(part, out, e)?;
     let function = returned_function(alloc, part)?;
     add_mask(out, part.function, function)?;
     if part.function != part.iteration {
@@ -291,15 +257,14 @@ fn begin_arm(
     alloc: Global,
     part: PartWords,
     out: &mut Vec<SpStmt>,
-    condition: &SpExpr,
+    condition: SpExpr,
 ) -> Result<PartWords, OutOfMemory>
     requires { part.free + 1 < 2 ^ 32 }
     ensures arm { IfOk result (λ p. p ≡ part_words.in_arm part) }
     ensures mask { OnOk result (stmts_of out.new.items
         ≡ joined (stmts_of out.old.items)
-        (one (masks part.free (part_words.where_so part.own (plain_sp condition.now))))) }
+        (one (masks part.free (part_words.where_so part.own (plain_sp condition))))) }
 {
-    let condition = copied(alloc, condition)?;
     let taken = where_so(alloc, part.own, condition)?;
     add_mask(out, part.free, taken)?;
     Ok(part.in_arm())
@@ -321,11 +286,11 @@ fn begin_otherwise(
 }
 
 // whether no arm is left, and nothing stands after the last `else`
-#[tactic(auto, using(crate::proofs::Converted::no_branches, crate::proofs::Converted::no_actions))]
-fn stands_nothing(rest: &[Branch], otherwise: &[Action]) -> bool
-    ensures { result ≡ (specs.is_no_branch (branches_of rest.now) && specs.is_no_action (actions_of otherwise.now)) }
+#[tactic(auto, using(crate::proofs::Converted::no_actions))]
+fn stands_nothing(arms: usize, otherwise: &[Action]) -> bool
+    ensures { result ≡ (arms == 0 && specs.is_no_action (actions_of otherwise.now)) }
 {
-    rest.is_empty() && otherwise.is_empty()
+    arms == 0 && otherwise.is_empty()
 }
 
 // the mask of the part itself, where it is another than the loop's
@@ -413,7 +378,7 @@ fn add_again(
     add_mask(iteration, part.free, again)
 }
 
-// the test of an iteration
+// the test of an iteration; the condition stands once more after the loop
 fn begin_iteration(
     alloc: Global,
     part: PartWords,
@@ -436,28 +401,14 @@ fn end_iteration(
     part: PartWords,
     iteration: &mut Vec<SpStmt>,
     exits: bool,
-    step: &Option<Assignment>,
+    step: Option<Assignment>,
 ) -> Result<(), OutOfMemory>
     ensures { OnOk result (stmts_of iteration.new.items ≡ joined (stmts_of iteration.old.items)
         (joined (specs.made_again part exits)
-        (specs.made_step part.free (option_map plain_assignment step.now)))) }
+        (specs.made_step part.free (option_map plain_assignment step)))) }
 {
     add_again(alloc, part, iteration, exits)?;
-    add_step(alloc, iteration, part.free, step)
-}
-
-// the flag of a loop of bound 0
-fn add_flag(
-    alloc: Global,
-    out: &mut Vec<SpStmt>,
-    mask: u32,
-    condition: &SpExpr,
-) -> Result<(), OutOfMemory>
-    ensures { OnOk result (stmts_of out.new.items
-        ≡ joined (stmts_of out.old.items) (one (overruns mask (plain_sp condition.now)))) }
-{
-    let holds = copied(alloc, condition)?;
-    add_overrun(out, mask, holds)
+    add_step(iteration, part.free, step)
 }
 
 // a loop of one iteration or more
@@ -467,19 +418,19 @@ fn add_loop(
     part: PartWords,
     out: &mut Vec<SpStmt>,
     max: u32,
-    condition: &SpExpr,
+    condition: SpExpr,
     exits: bool,
     iteration: List<SpStmt>,
 ) -> Result<(), OutOfMemory>
     ensures { OnOk result (stmts_of out.new.items ≡ joined (stmts_of out.old.items)
         (stmt (masks part.free (part_words.bit_of part.own))
-        (stmt (tree.iterations max (stmts_of iteration)) (stmt (overruns part.free (plain_sp condition.now))
+        (stmt (tree.iterations max (stmts_of iteration)) (stmt (overruns part.free (plain_sp condition))
         (specs.made_behind part exits))))) }
 {
     let on = bit_of(alloc, part.own)?;
     add_mask(out, part.free, on)?;
     add_iterations(out, max, iteration)?;
-    add_flag(alloc, out, part.free, condition)?;
+    add_overrun(out, part.free, condition)?;
     repair_behind(alloc, part, out, exits)
 }
 
@@ -521,40 +472,39 @@ fn add_action(
     known: Option<Start>,
     part: PartWords,
     out: &mut Vec<SpStmt>,
-    action: &Action,
+    action: Action,
 ) -> Result<(), OutOfMemory>
-    requires { part.free + widths.action_masks (plain_action action.now) < 2 ^ 32 }
+    requires { part.free + widths.action_masks (plain_action action) < 2 ^ 32 }
     ensures { OnOk result (stmts_of out.new.items
-        ≡ joined (stmts_of out.old.items) (specs.made_action known part (plain_action action.now))) }
+        ≡ joined (stmts_of out.old.items) (specs.made_action known part (plain_action action))) }
 {
     match action {
-        Action::Set { assignment } => add_assignment(alloc, out, part.own, assignment),
+        Action::Set { assignment } => add_assignment(out, part.own, assignment),
         Action::Call {
             function,
             args,
             target,
-        } => add_call(alloc, part, out, *function, args.values.as_slice(), target),
+        } => add_call(part, out, function, args, target),
         Action::Send {
             core,
             source,
             target,
             count,
-        } => add_send(out, part.own, *core, source, target, count),
+        } => add_send(out, part.own, core, source, target, count),
         Action::Choose {
             branches,
             otherwise,
-        } => add_choice(alloc, part, out, branches.as_slice(), otherwise.as_slice()),
+        } => add_choice(alloc, part, out, branches, otherwise),
         Action::Loop {
             max,
             condition,
             body,
             step,
         } => {
-            let body = body.as_slice();
-            if is_counted(known, *max, condition, body, step) {
-                return add_counted(part, out, *max, body, step);
+            if is_counted(known, max, &condition, body.as_slice(), &step) {
+                return add_counted(part, out, max, body, step);
             }
-            add_repeated(part, out, *max, condition, body, step)
+            add_repeated(part, out, max, condition, body, step)
         }
         Action::Break => add_break(alloc, part, out),
         Action::Continue => add_continue(alloc, part, out),
@@ -564,24 +514,26 @@ fn add_action(
 
 /// Statements that do what these actions do, after others.
 #[cycle(conversion)]
-#[tactic(auto, using(crate::proofs::Converted::next_action, crate::proofs::Converted::last_action, crate::proofs::Converted::no_action_left))]
+#[tactic(auto)]
 pub fn add_all(
     alloc: Global,
     part: PartWords,
     out: &mut Vec<SpStmt>,
-    actions: &[Action],
+    actions: List<Action>,
 ) -> Result<(), OutOfMemory>
-    requires { part.free + widths.masks (actions_of actions.now) < 2 ^ 32 }
+    requires { part.free + widths.masks (actions_of actions) < 2 ^ 32 }
     ensures { OnOk result (stmts_of out.new.items
-        ≡ joined (stmts_of out.old.items) (specs.made None part (actions_of actions.now))) }
+        ≡ joined (stmts_of out.old.items) (specs.made None part (actions_of actions))) }
 {
     let mut known = None;
-    for action in actions {
+    for action in actions.into_vec() {
+        let last = ends(&action);
+        let next = start_of(&action);
         add_action(alloc, known, part, out, action)?;
-        if ends(action) {
+        if last {
             return Ok(());
         }
-        known = start_of(action);
+        known = next;
     }
     Ok(())
 }
@@ -593,73 +545,49 @@ fn add_choice(
     alloc: Global,
     part: PartWords,
     out: &mut Vec<SpStmt>,
-    branches: &[Branch],
-    otherwise: &[Action],
+    branches: List<Branch>,
+    otherwise: List<Action>,
 ) -> Result<(), OutOfMemory>
-    requires { part.free + widths.branches_masks (branches_of branches.now) (widths.masks (actions_of otherwise.now))
-        < 2 ^ 32 }
+    requires { part.free + widths.branches_masks (branches_of branches) (widths.masks (actions_of otherwise)) < 2 ^ 32 }
     ensures { OnOk result (stmts_of out.new.items
         ≡ joined (stmts_of out.old.items)
-        (specs.made_action None part (plain.chooses (branches_of branches.now) (actions_of otherwise.now)))) }
+        (specs.made_action None part (plain.chooses (branches_of branches) (actions_of otherwise)))) }
 {
+    let exits = choice_exits(any_exit(), branches.as_slice(), otherwise.as_slice());
     add_arms(alloc, part, out, branches, otherwise)?;
-    let exits = choice_exits(any_exit(), branches, otherwise);
     repair_after(alloc, part, out, exits)
 }
 
-// arms, each with those that stand after its `else`
+// arms, each with those that stand after its `else`, under a mask of their own
 #[cycle(conversion)]
 #[tactic(auto)]
 fn add_arms(
     alloc: Global,
     part: PartWords,
     out: &mut Vec<SpStmt>,
-    branches: &[Branch],
-    otherwise: &[Action],
+    branches: List<Branch>,
+    otherwise: List<Action>,
 ) -> Result<(), OutOfMemory>
-    requires { part.free + widths.branches_masks (branches_of branches.now) (widths.masks (actions_of otherwise.now))
-        < 2 ^ 32 }
+    requires { part.free + widths.branches_masks (branches_of branches) (widths.masks (actions_of otherwise)) < 2 ^ 32 }
     ensures { OnOk result (stmts_of out.new.items
         ≡ joined (stmts_of out.old.items)
-        (specs.made_branches part (branches_of branches.now) (specs.is_no_action (actions_of otherwise.now))
-        (λ q. specs.made None q (actions_of otherwise.now)))) }
+        (specs.made_branches part (branches_of branches) (specs.is_no_action (actions_of otherwise))
+        (λ q. specs.made None q (actions_of otherwise)))) }
 {
-    match branches {
-        [] => add_all(alloc, part, out, otherwise),
-        [branch, rest @ ..] => {
-            let arm = begin_arm(alloc, part, out, &branch.condition)?;
-            add_all(alloc, arm, out, branch.body.as_slice())?;
-            let exits = may_exit(any_exit(), branch.body.as_slice());
-            add_otherwise(alloc, part, arm, exits, out, rest, otherwise)
+    let mut around = part;
+    let mut left = branches.into_vec().into_iter();
+    while let Some(branch) = left.next() {
+        let Branch { condition, body } = branch;
+        let exits = may_exit(any_exit(), body.as_slice());
+        let arm = begin_arm(alloc, around, out, condition)?;
+        add_all(alloc, arm, out, body)?;
+        if stands_nothing(left.len(), otherwise.as_slice()) {
+            return Ok(());
         }
+        begin_otherwise(alloc, around, exits, out)?;
+        around = arm;
     }
-}
-
-// what stands after an arm: nothing, or more arms under a mask of their own
-#[cycle(conversion)]
-#[tactic(auto)]
-fn add_otherwise(
-    alloc: Global,
-    part: PartWords,
-    arm: PartWords,
-    exits: bool,
-    out: &mut Vec<SpStmt>,
-    rest: &[Branch],
-    otherwise: &[Action],
-) -> Result<(), OutOfMemory>
-    requires { arm.free + widths.branches_masks (branches_of rest.now) (widths.masks (actions_of otherwise.now))
-        < 2 ^ 32 }
-    ensures { OnOk result (stmts_of out.new.items ≡ joined (stmts_of out.old.items)
-        (specs.made_otherwise part exits (specs.is_no_branch (branches_of rest.now)
-        && specs.is_no_action (actions_of otherwise.now))
-        (specs.made_branches arm (branches_of rest.now) (specs.is_no_action (actions_of otherwise.now))
-        (λ q. specs.made None q (actions_of otherwise.now))))) }
-{
-    if stands_nothing(rest, otherwise) {
-        return Ok(());
-    }
-    begin_otherwise(alloc, part, exits, out)?;
-    add_arms(alloc, arm, out, rest, otherwise)
+    add_all(alloc, around, out, otherwise)
 }
 
 // a loop that counts
@@ -669,22 +597,22 @@ fn add_counted(
     part: PartWords,
     out: &mut Vec<SpStmt>,
     max: u32,
-    body: &[Action],
-    step: &Option<Assignment>,
+    body: List<Action>,
+    step: Option<Assignment>,
 ) -> Result<(), OutOfMemory>
-    requires { part.free + (1 + widths.masks (actions_of body.now)) < 2 ^ 32 }
+    requires { part.free + (1 + widths.masks (actions_of body)) < 2 ^ 32 }
     ensures { OnOk result (stmts_of out.new.items ≡ joined (stmts_of out.old.items)
-        (specs.made_counted part max (specs.actions_exit specs.by_continue (actions_of body.now))
-        (specs.made None (specs.counted_part part (specs.actions_exit specs.by_continue (actions_of body.now)))
-        (actions_of body.now)) (option_map plain_assignment step.now))) }
+        (specs.made_counted part max (specs.actions_exit specs.by_continue (actions_of body))
+        (specs.made None (specs.counted_part part (specs.actions_exit specs.by_continue (actions_of body)))
+        (actions_of body)) (option_map plain_assignment step))) }
 {
     let alloc = *out.allocator();
     let mut iteration = Vec::new(alloc);
-    let resumes = may_exit(by_continue(), body);
+    let resumes = may_exit(by_continue(), body.as_slice());
     let inner = counted_part(part, resumes);
     begin_counted(alloc, part, &mut iteration, resumes)?;
     add_all(alloc, inner, &mut iteration, body)?;
-    add_step(alloc, &mut iteration, part.own, step)?;
+    add_step(&mut iteration, part.own, step)?;
     add_iterations(out, max, List::of(iteration))
 }
 
@@ -695,26 +623,25 @@ fn add_repeated(
     part: PartWords,
     out: &mut Vec<SpStmt>,
     max: u32,
-    condition: &SpExpr,
-    body: &[Action],
-    step: &Option<Assignment>,
+    condition: SpExpr,
+    body: List<Action>,
+    step: Option<Assignment>,
 ) -> Result<(), OutOfMemory>
-    requires { part.free + widths.loop_masks max (widths.masks (actions_of body.now)) < 2 ^ 32 }
+    requires { part.free + widths.loop_masks max (widths.masks (actions_of body)) < 2 ^ 32 }
     ensures { OnOk result (stmts_of out.new.items ≡ joined (stmts_of out.old.items)
-        (specs.made_loop part max (plain_sp condition.now) (specs.actions_exit specs.by_return (actions_of body.now))
-        (specs.made_iteration part (plain_sp condition.now) (specs.actions_exit specs.by_continue (actions_of body.now))
-        (specs.made None (part_words.in_loop part) (actions_of body.now)) (option_map plain_assignment step.now)))) }
+        (specs.made_loop part max (plain_sp condition) (specs.actions_exit specs.by_return (actions_of body))
+        (specs.made_iteration part (plain_sp condition) (specs.actions_exit specs.by_continue (actions_of body))
+        (specs.made None (part_words.in_loop part) (actions_of body)) (option_map plain_assignment step)))) }
 {
     let alloc = *out.allocator();
     if max == 0 {
-        return add_flag(alloc, out, part.own, condition);
+        return add_overrun(out, part.own, condition);
     }
-    let mut iteration = begin_iteration(alloc, part, condition)?;
-    let inner = part.in_loop();
-    add_all(alloc, inner, &mut iteration, body)?;
-    let again = may_exit(by_continue(), body);
+    let again = may_exit(by_continue(), body.as_slice());
+    let returned = may_exit(by_return(), body.as_slice());
+    let mut iteration = begin_iteration(alloc, part, &condition)?;
+    add_all(alloc, part.in_loop(), &mut iteration, body)?;
     end_iteration(alloc, part, &mut iteration, again, step)?;
-    let returned = may_exit(by_return(), body);
     add_loop(
         alloc,
         part,

@@ -23,7 +23,7 @@ use crate::part_words::PartWords;
 use crate::statements::{add_all, add_mask};
 use crate::widths::{exact_levels, exact_width};
 use c_check::{frame_of, weight_of};
-use c_meaning::{Action, InputPlace, Routine, add_initial, input_place, resolve};
+use c_meaning::{InputPlace, Resolved, Routine, add_initial, input_place, resolve};
 use c_tree::{Checked, Item};
 use sp_inline::take_in;
 use sp_tree::{SpFunction, SpUnit};
@@ -31,12 +31,13 @@ use std::alloc::Global;
 use tc_word::{List, OutOfMemory};
 
 // a function with so many parameters
-fn function(alloc: Global, parameters: usize, body: &[Action]) -> Result<SpFunction, OutOfMemory>
-    requires { (specs.made_function parameters (actions_of body.now)).frame < 2 ^ 32 }
-    ensures { IfOk result (λ f. plain_function f ≡ specs.made_function parameters (actions_of body.now)) }
+fn function(alloc: Global, routine: Routine) -> Result<SpFunction, OutOfMemory>
+    requires { (specs.made_function routine.parameters (actions_of routine.body)).frame < 2 ^ 32 }
+    ensures { IfOk result (λ f. plain_function f ≡ specs.made_function routine.parameters (actions_of routine.body)) }
 {
+    let Routine { parameters, body } = routine;
     let parameters = parameters as u32;
-    let width = exact_width(body);
+    let width = exact_width(body.as_slice());
     let part = PartWords::outermost(parameters.max(width.variables));
     let mut made = Vec::new(alloc);
     let mask = begun_mask(alloc, part)?;
@@ -54,17 +55,16 @@ fn function(alloc: Global, parameters: usize, body: &[Action]) -> Result<SpFunct
 }
 
 // functions, each of the actions of a routine
-#[tactic(auto, using(crate::proofs::Assembled::frame_at, crate::proofs::Assembled::function_next))]
-fn functions(alloc: Global, routines: &[Routine]) -> Result<List<SpFunction>, OutOfMemory>
-    requires { (k : ℕ) → k < length (bodies_of routines.now)
-        → (specs.made_function (slice_index (counts_of routines.now) k)
-        (slice_index_or (bodies_of routines.now) k no_action)).frame < 2 ^ 32 }
-    ensures { IfOk result (λ fs. functions_of fs
-        ≡ specs.made_functions (counts_of routines.now) (bodies_of routines.now)) }
+#[tactic(auto)]
+fn functions(alloc: Global, routines: List<Routine>) -> Result<List<SpFunction>, OutOfMemory>
+    requires { (k : ℕ) → k < length (bodies_of routines)
+        → (specs.made_function (slice_index (counts_of routines) k)
+        (slice_index_or (bodies_of routines) k no_action)).frame < 2 ^ 32 }
+    ensures { IfOk result (λ fs. functions_of fs ≡ specs.made_functions (counts_of routines) (bodies_of routines)) }
 {
     let mut made = Vec::new(alloc);
-    for routine in routines {
-        made.push(function(alloc, routine.parameters, routine.body.as_slice())?)?;
+    for routine in routines.into_vec() {
+        made.push(function(alloc, routine)?)?;
     }
     Ok(List::of(made))
 }
@@ -95,8 +95,9 @@ fn tree_of(alloc: Global, program: &Checked) -> Result<SpUnit, OutOfMemory>
 {
     let items = program.unit.items.as_slice();
     let resolved = resolve(alloc, program)?;
-    let functions = functions(alloc, resolved.routines.as_slice())?;
-    let entry = entry_of(resolved.main);
+    let Resolved { routines, main } = resolved;
+    let functions = functions(alloc, routines)?;
+    let entry = entry_of(main);
     let initial = initial_words(alloc, items)?;
     let InputPlace { at, room } = input_place(items);
     Ok(SpUnit {

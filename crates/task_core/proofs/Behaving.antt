@@ -1,15 +1,14 @@
 -- The code of a task asks for nothing that a check of a core stops, makes its iterations, and has the same events.
-use Rattle.std.proofs.Common.{◌≡◌, ℕ, ◌+◌, ◌*◌, ◌%◌, ◌^◌, ◌<◌, ◌⊎◌, inl, inr, true, List, [], ◌∷◌, ◌++◌, length, Option, None, Some, slice_index_or, refl, sym, ap, ◌∙◌, subst, arith}
+use Rattle.std.proofs.Common.{◌≡◌, ℕ, ◌+◌, ◌%◌, ◌^◌, ◌<◌, inl, inr, true, List, [], ◌∷◌, ◌++◌, length, Option, None, Some, slice_index_or, refl, sym, ap, ◌∙◌, subst, arith}
 use Rattle.std.proofs.Math.ListN.{get_or-eq_default}
-use Rattle.std.specs.Prelude.{◌&&◌, is_none, nat_le, nat_lt}
+use Rattle.std.specs.Prelude.{◌&&◌, is_none, nat_lt}
 use Rattle.std.specs.List.{Contains, AllByRecursion as Each}
-use Rattle.std.proofs.lemmas.Bool.{and_from, and_parts, leb-true, ltb-true, cases_lt}
+use Rattle.std.proofs.lemmas.Bool.{and_from, and_parts, cases_lt}
 use Rattle.std.proofs.lemmas.List.Elements.{recursion_from_All, All-contains_itself}
 use Rattle.slot_arbiter.specs.declared.place.Place.{Place}
 use Rattle.c_world.specs.Shown.{room_in}
 use Rattle.c_world.specs.declared.region.Region.{Region}
 use Rattle.c_world.specs.declared.region.Region.TheVariants as region
-use Rattle.local_store.specs.declared.map.Cell.TheVariants as cell
 use Rattle.patmos_instr.specs.Bundles.{PlainBundle}
 use Rattle.patmos_instr.specs.declared.instructions.Instr.{Instr}
 use Rattle.patmos_instr.specs.declared.memories.Mem.TheVariants as mem
@@ -19,7 +18,7 @@ use Rattle.patmos_sem.specs.declared.effects.Effect.{Effect}
 use Rattle.patmos_sem.specs.declared.effects.Effect.TheVariants as effect
 use Rattle.patmos_model.specs.Apart.{site_of}
 use Rattle.patmos_model.specs.Site.{Site}
-use Rattle.sp_tree.specs.Formed.{all_rooms, first_of, is_formed}
+use Rattle.sp_tree.specs.Formed.{all_rooms, is_formed}
 use Rattle.sp_tree.specs.Statements.{PlainUnit}
 use Rattle.sp_tree.specs.Uses.{Use, sends_to, uses_of}
 use Rattle.sp_shape.specs.Memory.{Memory, cell_of}
@@ -46,7 +45,6 @@ use Rattle.patmos_model.specs.Range.{IsWord, HasCode, constant_of}
 use Rattle.sp_emit.proofs.Aligned.{read_aligned, stored_aligned}
 use Rattle.sp_emit.proofs.Cells.{cell_in}
 use Rattle.sp_emit.proofs.FunctionIterations.{task_iterations}
-use Rattle.sp_emit.proofs.Sends.{port_found}
 use Rattle.sp_emit.proofs.TaskAsks.{task_asks}
 use Rattle.sp_emit.proofs.WithinStack.{task_stays}
 use Rattle.bundle_sched.proofs.Runs.{runs_as}
@@ -64,7 +62,7 @@ use Rattle.code_core.specs.Goes.{by_stack}
 use Rattle.code_core.specs.Sound.{IsSound, IsLocalLoadable, IsMainLoadable, IsLocalStorable, IsMainStorable}
 use Rattle.code_core.proofs.Asked.{asked_is, all_sound}
 use Rattle.task_core.specs.Tasks.{code_of, IsRunnable, IsCode}
-use Rattle.task_core.proofs.Places.{variable_at, element_at}
+use Rattle.task_core.proofs.Places.{no_cached_element, no_local, at_read, at_stored}
 use Rattle.task_core.proofs.RunWords.{all_words, words_at_begin}
 use Rattle.task_core.proofs.Sending.{StartIn, asks_once, asked_once, starts_in, all_send}
 
@@ -82,178 +80,102 @@ local_element region.Comm word is = tt
 local_element region.Private word is = absurd (let e : mem.L ≡ mem.M = is in cc)
 local_element region.Shared word is = absurd (let e : mem.L ≡ mem.M = is in cc)
 
+main_cached : (r : Region) (word : ℕ) → mem.C ≡ cell_space r → IsMainLoadable (Some (cell_in r word))
+main_cached region.Scratch word is = absurd (let e : mem.C ≡ mem.L = is in cc)
+main_cached region.Comm word is = absurd (let e : mem.C ≡ mem.L = is in cc)
+main_cached region.Private word is = tt
+main_cached region.Shared word is = tt
+
+main_cell : (r : Region) (word : ℕ) → mem.M ≡ cell_space r → IsMainLoadable (Some (cell_in r word))
+main_cell region.Scratch word is = absurd (let e : mem.M ≡ mem.L = is in cc)
+main_cell region.Comm word is = absurd (let e : mem.M ≡ mem.L = is in cc)
+main_cell region.Private word is = tt
+main_cell region.Shared word is = tt
+
+main_element : (r : Region) (word : ℕ) → mem.M ≡ array_space r → IsMainLoadable (Some (cell_in r word))
+main_element region.Scratch word is = absurd (let e : mem.M ≡ mem.L = is in cc)
+main_element region.Comm word is = absurd (let e : mem.M ≡ mem.L = is in cc)
+main_element region.Private word is = tt
+main_element region.Shared word is = tt
+
+module _ (site : Site) (k : Memory) (value : ℕ) where
+  local_kept : (r : Region) (word : ℕ) → mem.L ≡ cell_space r → IsLocalStorable site k value (Some (cell_in r word))
+  local_kept region.Scratch word is = tt
+  local_kept region.Comm word is = tt
+  local_kept region.Private word is = absurd (let e : mem.L ≡ mem.C = is in cc)
+  local_kept region.Shared word is = absurd (let e : mem.L ≡ mem.M = is in cc)
+
+  local_kept_element : (r : Region) (word : ℕ) → mem.L ≡ array_space r
+      → IsLocalStorable site k value (Some (cell_in r word))
+  local_kept_element region.Scratch word is = tt
+  local_kept_element region.Comm word is = tt
+  local_kept_element region.Private word is = absurd (let e : mem.L ≡ mem.M = is in cc)
+  local_kept_element region.Shared word is = absurd (let e : mem.L ≡ mem.M = is in cc)
+
+cached_kept : (r : Region) (word : ℕ) → word < room_in r all_rooms → mem.C ≡ cell_space r
+    → IsMainStorable (Some (cell_in r word))
+cached_kept region.Scratch word within is = absurd (let e : mem.C ≡ mem.L = is in cc)
+cached_kept region.Comm word within is = absurd (let e : mem.C ≡ mem.L = is in cc)
+cached_kept region.Private word within is = within
+cached_kept region.Shared word within is = tt
+
+main_kept : (r : Region) (word : ℕ) → word < room_in r all_rooms → mem.M ≡ cell_space r
+    → IsMainStorable (Some (cell_in r word))
+main_kept region.Scratch word within is = absurd (let e : mem.M ≡ mem.L = is in cc)
+main_kept region.Comm word within is = absurd (let e : mem.M ≡ mem.L = is in cc)
+main_kept region.Private word within is = within
+main_kept region.Shared word within is = tt
+
+main_kept_element : (r : Region) (word : ℕ) → word < room_in r all_rooms → mem.M ≡ array_space r
+    → IsMainStorable (Some (cell_in r word))
+main_kept_element region.Scratch word within is = absurd (let e : mem.M ≡ mem.L = is in cc)
+main_kept_element region.Comm word within is = absurd (let e : mem.M ≡ mem.L = is in cc)
+main_kept_element region.Private word within is = within
+main_kept_element region.Shared word within is = tt
+
 module _ (Named : Use → Type 0) where
   local_read : (address : ℕ) → IsReadPlace Named mem.L address → IsLocalLoadable (cell_of mem.L address)
-  local_read address (inl v) =
-      let c = v.0 in
-      let parts = and_parts (nat_le (first_of c.region) c.word) (nat_lt c.word (room_in c.region all_rooms))
-      v.2.formed in
-      subst IsLocalLoadable
-      (sym (variable_at c.region c.word mem.L address (ltb-true c.word (room_in c.region all_rooms) parts.1)
-      v.2.space_is v.2.address_is)) (local_cell c.region c.word v.2.space_is)
-  local_read address (inr (inl v)) =
-      let a = v.0 in
-      let parts = and_parts (nat_le (first_of a.region) a.first) (nat_le (a.first + a.length)
-      (room_in a.region all_rooms)) v.2.formed in
-      subst IsLocalLoadable (sym (element_at a.region (a.first + v.2.index) mem.L address
-      (omega (arith, v.2.within, leb-true (a.first + a.length) (room_in a.region all_rooms) parts.1)) v.2.space_is
-      v.2.address_is))
-      (local_element a.region (a.first + v.2.index) v.2.space_is)
-  local_read address (inr (inr v)) = subst (λ a. IsLocalLoadable (cell_of mem.L a)) (sym v.2.address_is) tt
-
-  main_cached : (r : Region) (word : ℕ) → mem.C ≡ cell_space r → IsMainLoadable (Some (cell_in r word))
-  main_cached region.Scratch word is = absurd (let e : mem.C ≡ mem.L = is in cc)
-  main_cached region.Comm word is = absurd (let e : mem.C ≡ mem.L = is in cc)
-  main_cached region.Private word is = tt
-  main_cached region.Shared word is = tt
-
-  no_cached_element : (r : Region) → mem.C ≡ array_space r → ⊥
-  no_cached_element region.Scratch is = let e : mem.C ≡ mem.L = is in cc
-  no_cached_element region.Comm is = let e : mem.C ≡ mem.L = is in cc
-  no_cached_element region.Private is = let e : mem.C ≡ mem.M = is in cc
-  no_cached_element region.Shared is = let e : mem.C ≡ mem.M = is in cc
+  local_read address =
+      at_read Named IsLocalLoadable mem.L address (λ c named is within at. local_cell c.region c.word is)
+      (λ a named index is within at. local_element a.region (a.first + index) is) (λ r is. tt)
 
   cached_read : (address : ℕ) → IsReadPlace Named mem.C address → IsMainLoadable (cell_of mem.C address)
-  cached_read address (inl v) =
-      let c = v.0 in
-      let parts = and_parts (nat_le (first_of c.region) c.word) (nat_lt c.word (room_in c.region all_rooms))
-      v.2.formed in
-      subst IsMainLoadable
-      (sym (variable_at c.region c.word mem.C address (ltb-true c.word (room_in c.region all_rooms) parts.1)
-      v.2.space_is v.2.address_is)) (main_cached c.region c.word v.2.space_is)
-  cached_read address (inr (inl v)) = absurd (no_cached_element v.0.region v.2.space_is)
-  cached_read address (inr (inr v)) = absurd (no_cached_element v.0.region v.2.space_is)
-
-  main_cell : (r : Region) (word : ℕ) → mem.M ≡ cell_space r → IsMainLoadable (Some (cell_in r word))
-  main_cell region.Scratch word is = absurd (let e : mem.M ≡ mem.L = is in cc)
-  main_cell region.Comm word is = absurd (let e : mem.M ≡ mem.L = is in cc)
-  main_cell region.Private word is = tt
-  main_cell region.Shared word is = tt
-
-  main_element : (r : Region) (word : ℕ) → mem.M ≡ array_space r → IsMainLoadable (Some (cell_in r word))
-  main_element region.Scratch word is = absurd (let e : mem.M ≡ mem.L = is in cc)
-  main_element region.Comm word is = absurd (let e : mem.M ≡ mem.L = is in cc)
-  main_element region.Private word is = tt
-  main_element region.Shared word is = tt
+  cached_read address =
+      at_read Named IsMainLoadable mem.C address (λ c named is within at. main_cached c.region c.word is)
+      (λ a named index is within at. absurd (no_cached_element a.region is))
+      (λ r is. absurd (no_cached_element r is))
 
   main_read : (address : ℕ) → IsReadPlace Named mem.M address → IsMainLoadable (cell_of mem.M address)
-  main_read address (inl v) =
-      let c = v.0 in
-      let parts = and_parts (nat_le (first_of c.region) c.word) (nat_lt c.word (room_in c.region all_rooms))
-      v.2.formed in
-      subst IsMainLoadable
-      (sym (variable_at c.region c.word mem.M address (ltb-true c.word (room_in c.region all_rooms) parts.1)
-      v.2.space_is v.2.address_is)) (main_cell c.region c.word v.2.space_is)
-  main_read address (inr (inl v)) =
-      let a = v.0 in
-      let parts = and_parts (nat_le (first_of a.region) a.first) (nat_le (a.first + a.length)
-      (room_in a.region all_rooms)) v.2.formed in
-      subst IsMainLoadable (sym (element_at a.region (a.first + v.2.index) mem.M address
-      (omega (arith, v.2.within, leb-true (a.first + a.length) (room_in a.region all_rooms) parts.1)) v.2.space_is
-      v.2.address_is))
-      (main_element a.region (a.first + v.2.index) v.2.space_is)
-  main_read address (inr (inr v)) = subst (λ a. IsMainLoadable (cell_of mem.M a)) (sym v.2.address_is) tt
+  main_read address =
+      at_read Named IsMainLoadable mem.M address (λ c named is within at. main_cell c.region c.word is)
+      (λ a named index is within at. main_element a.region (a.first + index) is) (λ r is. tt)
 
   -- ---- stores
 
-  module _ (few : (core : ℕ) → Named (sends_to core) → core < 16) (site : Site) (k : Memory) (value : ℕ) where
-    local_kept : (r : Region) (word : ℕ) → mem.L ≡ cell_space r → IsLocalStorable site k value (Some (cell_in r word))
-    local_kept region.Scratch word is = tt
-    local_kept region.Comm word is = tt
-    local_kept region.Private word is = absurd (let e : mem.L ≡ mem.C = is in cc)
-    local_kept region.Shared word is = absurd (let e : mem.L ≡ mem.M = is in cc)
+  module _ (few : (core : ℕ) → Named (sends_to core) → core < 16) where
+    local_store : (site : Site) (k : Memory) (value address : ℕ) → IsStoredPlace Named mem.L address
+        → MaySendAt site k value (cell_of mem.L address) → IsLocalStorable site k value (cell_of mem.L address)
+    local_store site k value address =
+        at_stored Named (λ c. MaySendAt site k value c → IsLocalStorable site k value c) mem.L address few
+        (λ c named is within at sends. local_kept site k value c.region c.word is)
+        (λ a named index is within at sends. local_kept_element site k value a.region (a.first + index) is)
+        (λ is sends. absurd (no_local is)) (λ core register named within is sends. sends)
 
-    local_kept_element : (r : Region) (word : ℕ) → mem.L ≡ array_space r
-        → IsLocalStorable site k value (Some (cell_in r word))
-    local_kept_element region.Scratch word is = tt
-    local_kept_element region.Comm word is = tt
-    local_kept_element region.Private word is = absurd (let e : mem.L ≡ mem.M = is in cc)
-    local_kept_element region.Shared word is = absurd (let e : mem.L ≡ mem.M = is in cc)
+    cached_store : (address : ℕ) → IsStoredPlace Named mem.C address → IsMainStorable (cell_of mem.C address)
+    cached_store address =
+        at_stored Named IsMainStorable mem.C address few
+        (λ c named is within at. cached_kept c.region c.word within is)
+        (λ a named index is within at. absurd (no_cached_element a.region is))
+        (λ is. let low : 0 < 49152 = omega arith in low)
+        (λ core register named within is. absurd (let e : mem.C ≡ mem.L = is in cc))
 
-    no_local : (mem.L ≡ mem.C) ⊎ (mem.L ≡ mem.M) → ⊥
-    no_local (inl is) = cc
-    no_local (inr is) = cc
-
-    local_store : (address : ℕ) → IsStoredPlace Named mem.L address → MaySendAt site k value (cell_of mem.L address)
-        → IsLocalStorable site k value (cell_of mem.L address)
-    local_store address (inl v) sends =
-        let c = v.0 in
-        let parts = and_parts (nat_le (first_of c.region) c.word) (nat_lt c.word (room_in c.region all_rooms))
-        v.2.formed in
-        subst (IsLocalStorable site k value)
-        (sym (variable_at c.region c.word mem.L address (ltb-true c.word (room_in c.region all_rooms) parts.1)
-        v.2.space_is v.2.address_is)) (local_kept c.region c.word v.2.space_is)
-    local_store address (inr (inl v)) sends =
-        let a = v.0 in
-        let parts = and_parts (nat_le (first_of a.region) a.first) (nat_le (a.first + a.length)
-        (room_in a.region all_rooms)) v.2.formed in
-        subst (IsLocalStorable site k value) (sym (element_at a.region (a.first + v.2.index) mem.L address
-        (omega (arith, v.2.within, leb-true (a.first + a.length) (room_in a.region all_rooms) parts.1)) v.2.space_is
-        v.2.address_is))
-        (local_kept_element a.region (a.first + v.2.index) v.2.space_is)
-    local_store address (inr (inr (inl v))) sends = absurd (no_local v.space_is)
-    local_store address (inr (inr (inr v))) sends =
-        let core = v.0 in
-        let low : core < 16 = few core v.1 in
-        let at : (0x20000 + 16 * core + v.2.register * 4) % 2 ^ 32 ≡ address =
-        omega (arith, v.2.address_is, low, v.2.within) in
-        let there : cell_of mem.L address ≡ Some (cell.Port core (4 * v.2.register)) =
-        sym (ap (cell_of mem.L) at) ∙ port_found core v.2.register low v.2.within in
-        subst (IsLocalStorable site k value) (sym there) (subst (MaySendAt site k value) there sends)
-
-  cached_kept : (r : Region) (word : ℕ) → word < room_in r all_rooms → mem.C ≡ cell_space r
-      → IsMainStorable (Some (cell_in r word))
-  cached_kept region.Scratch word within is = absurd (let e : mem.C ≡ mem.L = is in cc)
-  cached_kept region.Comm word within is = absurd (let e : mem.C ≡ mem.L = is in cc)
-  cached_kept region.Private word within is = within
-  cached_kept region.Shared word within is = tt
-
-  cached_store : (address : ℕ) → IsStoredPlace Named mem.C address → IsMainStorable (cell_of mem.C address)
-  cached_store address (inl v) =
-      let c = v.0 in
-      let parts = and_parts (nat_le (first_of c.region) c.word) (nat_lt c.word (room_in c.region all_rooms))
-      v.2.formed in
-      let within = ltb-true c.word (room_in c.region all_rooms) parts.1 in
-      subst IsMainStorable (sym (variable_at c.region c.word mem.C address within v.2.space_is v.2.address_is))
-      (cached_kept c.region c.word within v.2.space_is)
-  cached_store address (inr (inl v)) = absurd (no_cached_element v.0.region v.2.space_is)
-  cached_store address (inr (inr (inl v))) =
-      subst (λ a. IsMainStorable (cell_of mem.C a)) (sym v.address_is) (let low : 0 < 49152 = omega arith in low)
-  cached_store address (inr (inr (inr v))) = absurd (let e : mem.C ≡ mem.L = v.2.space_is in cc)
-
-  main_kept : (r : Region) (word : ℕ) → word < room_in r all_rooms → mem.M ≡ cell_space r
-      → IsMainStorable (Some (cell_in r word))
-  main_kept region.Scratch word within is = absurd (let e : mem.M ≡ mem.L = is in cc)
-  main_kept region.Comm word within is = absurd (let e : mem.M ≡ mem.L = is in cc)
-  main_kept region.Private word within is = within
-  main_kept region.Shared word within is = tt
-
-  main_kept_element : (r : Region) (word : ℕ) → word < room_in r all_rooms → mem.M ≡ array_space r
-      → IsMainStorable (Some (cell_in r word))
-  main_kept_element region.Scratch word within is = absurd (let e : mem.M ≡ mem.L = is in cc)
-  main_kept_element region.Comm word within is = absurd (let e : mem.M ≡ mem.L = is in cc)
-  main_kept_element region.Private word within is = within
-  main_kept_element region.Shared word within is = tt
-
-  main_store : (address : ℕ) → IsStoredPlace Named mem.M address → IsMainStorable (cell_of mem.M address)
-  main_store address (inl v) =
-      let c = v.0 in
-      let parts = and_parts (nat_le (first_of c.region) c.word) (nat_lt c.word (room_in c.region all_rooms))
-      v.2.formed in
-      let within = ltb-true c.word (room_in c.region all_rooms) parts.1 in
-      subst IsMainStorable (sym (variable_at c.region c.word mem.M address within v.2.space_is v.2.address_is))
-      (main_kept c.region c.word within v.2.space_is)
-  main_store address (inr (inl v)) =
-      let a = v.0 in
-      let parts = and_parts (nat_le (first_of a.region) a.first) (nat_le (a.first + a.length)
-      (room_in a.region all_rooms)) v.2.formed in
-      let within : a.first + v.2.index < room_in a.region all_rooms =
-      omega (arith, v.2.within, leb-true (a.first + a.length) (room_in a.region all_rooms) parts.1) in
-      subst IsMainStorable (sym (element_at a.region (a.first + v.2.index) mem.M address within v.2.space_is
-      v.2.address_is)) (main_kept_element a.region (a.first + v.2.index) within v.2.space_is)
-  main_store address (inr (inr (inl v))) =
-      subst (λ a. IsMainStorable (cell_of mem.M a)) (sym v.address_is) (let low : 0 < 49152 = omega arith in low)
-  main_store address (inr (inr (inr v))) = absurd (let e : mem.M ≡ mem.L = v.2.space_is in cc)
+    main_store : (address : ℕ) → IsStoredPlace Named mem.M address → IsMainStorable (cell_of mem.M address)
+    main_store address =
+        at_stored Named IsMainStorable mem.M address few
+        (λ c named is within at. main_kept c.region c.word within is)
+        (λ a named index is within at. main_kept_element a.region (a.first + index) within is)
+        (λ is. let low : 0 < 49152 = omega arith in low)
+        (λ core register named within is. absurd (let e : mem.M ≡ mem.L = is in cc))
 
   -- ---- each effect
 
@@ -274,9 +196,9 @@ module _ (Named : Use → Type 0) where
   sound_ask few site (effect.Store mem.L width address value) p k may within sends =
       (may.0, stored_aligned Named mem.L address may.1, local_store few site k value address may.1 sends)
   sound_ask few site (effect.Store mem.C width address value) p k may within sends =
-      (may.0, stored_aligned Named mem.C address may.1, cached_store address may.1)
+      (may.0, stored_aligned Named mem.C address may.1, cached_store few address may.1)
   sound_ask few site (effect.Store mem.M width address value) p k may within sends =
-      (may.0, stored_aligned Named mem.M address may.1, main_store address may.1)
+      (may.0, stored_aligned Named mem.M address may.1, main_store few address may.1)
   sound_ask few site (effect.StackOp func count) p k may within sends = within
 
 -- ---- addresses

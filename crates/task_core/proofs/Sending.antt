@@ -1,8 +1,7 @@
 -- Where a transfer is started only as its registers allow it, no check of a core stops it.
-use Rattle.std.proofs.Common.{◌≡◌, ℕ, ◌+◌, ◌*◌, ◌%◌, ◌<◌, ◌^◌, ◌&&◌, ◌==◌, ◌⊎◌, inl, inr, not, nat_le, nat_lt, true, List, [], ◌∷◌, ◌++◌, Some, append_assoc, append-nil, refl, sym, ap, ◌∙◌, subst, arith}
+use Rattle.std.proofs.Common.{◌≡◌, ℕ, ◌+◌, ◌*◌, ◌<◌, ◌&&◌, ◌==◌, not, nat_le, nat_lt, true, List, [], ◌∷◌, ◌++◌, Some, append_assoc, append-nil, refl, sym, ap, ◌∙◌, subst, arith}
 use Rattle.std.specs.List.{AllByRecursion as Each}
-use Rattle.std.proofs.lemmas.Bool.{and_parts, and_from, leb-true, ltb-true, lt-ltb, ne_eqb, eqb-true}
-use Rattle.c_world.specs.Shown.{room_in}
+use Rattle.std.proofs.lemmas.Bool.{and_parts, and_from, leb-true, lt-ltb, ne_eqb, eqb-true}
 use Rattle.c_world.specs.World.{may_start}
 use Rattle.c_world.specs.declared.region.Region.{Region}
 use Rattle.c_world.specs.declared.region.Region.TheVariants as region
@@ -15,7 +14,6 @@ use Rattle.patmos_sem.specs.declared.effects.Effect.TheVariants as effect
 use Rattle.patmos_instr.specs.declared.functions.StackFunc.TheVariants.{Sres, Sens, Sfree}
 use Rattle.patmos_model.specs.Checks.{is_other}
 use Rattle.patmos_model.specs.Site.{Site}
-use Rattle.sp_tree.specs.Formed.{all_rooms, first_of}
 use Rattle.sp_tree.specs.Uses.{Use, sends_to}
 use Rattle.sp_shape.specs.Memory.{Memory, cell_of, word_at, with_word}
 use Rattle.sp_shape.specs.Run.{Run, Sources, effected, late, once, run, begun}
@@ -23,11 +21,10 @@ use Rattle.sp_shape.specs.Trail.{Step, does, begins}
 use Rattle.sp_emit.specs.Accesses.{IsStoredPlace, MayAsk}
 use Rattle.sp_emit.specs.Starting.{StartsAt, StartsWell, AllStart}
 use Rattle.sp_emit.proofs.Cells.{cell_in}
-use Rattle.sp_emit.proofs.Sends.{port_found}
 use Rattle.code_core.specs.Asked.{asked_of, asks_in, MaySendAt, MaySend, AllSend}
 use Rattle.code_core.specs.Sound.{may_send}
 use Rattle.code_core.proofs.Asked.{effected_asked}
-use Rattle.task_core.proofs.Places.{variable_at, element_at}
+use Rattle.task_core.proofs.Places.{no_local, at_stored}
 
 -- ---- over what is asked for, where stores change the memory
 
@@ -103,50 +100,32 @@ module _ (Named : Use → Type 0) (site : Site) (others : (core : ℕ) → Named
   cell_sends k value region.Scratch word = tt
   cell_sends k value _ word = tt
 
-  no_local : (mem.L ≡ mem.C) ⊎ (mem.L ≡ mem.M) → ⊥
-  no_local (inl is) = cc
-  no_local (inr is) = cc
-
-  store_sends : (k : Memory) (value address : ℕ) → IsStoredPlace Named mem.L address
-      → StartsAt k value (cell_of mem.L address) → MaySendAt site k value (cell_of mem.L address)
-  store_sends k value address (inl v) well =
-      let c = v.0 in
-      let parts = and_parts (nat_le (first_of c.region) c.word) (nat_lt c.word (room_in c.region all_rooms))
-      v.2.formed in
-      subst (MaySendAt site k value)
-      (sym (variable_at c.region c.word mem.L address (ltb-true c.word (room_in c.region all_rooms) parts.1)
-      v.2.space_is v.2.address_is)) (cell_sends k value c.region c.word)
-  store_sends k value address (inr (inl v)) well =
-      let a = v.0 in
-      let parts = and_parts (nat_le (first_of a.region) a.first) (nat_le (a.first + a.length)
-      (room_in a.region all_rooms)) v.2.formed in
-      subst (MaySendAt site k value) (sym (element_at a.region (a.first + v.2.index) mem.L address
-      (omega (arith, v.2.within, leb-true (a.first + a.length) (room_in a.region all_rooms) parts.1)) v.2.space_is
-      v.2.address_is))
-      (cell_sends k value a.region (a.first + v.2.index))
-  store_sends k value address (inr (inr (inl v))) well = absurd (no_local v.space_is)
-  store_sends k value address (inr (inr (inr v))) well =
-      let core = v.0 in
-      let register = v.2.register in
-      let t = others core v.1 in
-      let at : (0x20000 + 16 * core + register * 4) % 2 ^ 32 ≡ address =
-      omega (arith, v.2.address_is, t.0, v.2.within) in
-      let there : cell_of mem.L address ≡ Some (cell.Port core (4 * register)) =
-      sym (ap (cell_of mem.L) at) ∙ port_found core register t.0 v.2.within in
-      let starts : StartsAt k value (Some (cell.Port core (4 * register))) = subst (StartsAt k value) there well in
+  port_sends : (k : Memory) (value core register : ℕ) → Named (sends_to core) → register < 3
+      → StartsAt k value (Some (cell.Port core (4 * register)))
+      → MaySendAt site k value (Some (cell.Port core (4 * register)))
+  port_sends k value core register named within starts =
+      let t = others core named in
       let other : is_other site core ≡ true = and_from (nat_lt core site.cores) (not (core == site.core))
-      (lt-ltb core site.cores t.1.0) (ap not (ne_eqb core site.core t.1.1)) in
-      subst (MaySendAt site k value) (sym there) (
+      (lt-ltb core site.cores t.1.0) (ap not (ne_eqb core site.core t.1.1)) in (
         t.0,
         (
           other,
           (
-            ne_eqb (4 * register) 12 (λ e. omega (arith, e, v.2.within)),
-            λ is. sends_alike k core value
-                (starts (eqb-true (4 * register) 8 is)),
+            ne_eqb (4 * register) 12 (λ e. omega (arith, e, within)),
+            λ is. sends_alike k core value (starts (eqb-true (4 * register) 8 is)),
           ),
         ),
       )
+
+  store_sends : (k : Memory) (value address : ℕ) → IsStoredPlace Named mem.L address
+      → StartsAt k value (cell_of mem.L address) → MaySendAt site k value (cell_of mem.L address)
+  store_sends k value address =
+      at_stored Named (λ c. StartsAt k value c → MaySendAt site k value c) mem.L address
+      (λ core named. (others core named).0)
+      (λ c named is within at well. cell_sends k value c.region c.word)
+      (λ a named index is within at well. cell_sends k value a.region (a.first + index))
+      (λ is well. absurd (no_local is))
+      (λ core register named within is. port_sends k value core register named within)
 
   record First (e : Effect) (k : Memory) (rest : List Effect) : Type 0 where
     sends : MaySend site e k

@@ -1,8 +1,8 @@
 -- A task's core gives what the task's tree means.
-use Rattle.std.proofs.Common.{◌≡◌, ℕ, ◌+◌, ◌-◌, ◌/◌, ◌<◌, ◌&&◌, inl, inr, min, nat_le, nat_lt, true, false, if◌then◌else◌, List, length, take, slice_index, Some, refl, sym, ap, ◌∙◌, subst, arith, length-take, get_or-take}
+use Rattle.std.proofs.Common.{◌≡◌, ℕ, ◌+◌, ◌-◌, ◌/◌, ◌<◌, ◌&&◌, inl, inr, min, nat_lt, true, false, if◌then◌else◌, List, length, take, slice_index, Some, refl, sym, ap, ◌∙◌, subst, arith, length-take, get_or-take}
 use Rattle.std.proofs.Math.ListN.{get_or-eq_default}
 use Rattle.std.specs.List.{Contains, AllByRecursion as Each}
-use Rattle.std.proofs.lemmas.Bool.{and_parts, cases_lt, le-leb, lt-leb, lt-ltb, le-ltb, leb-true, ltb-true}
+use Rattle.std.proofs.lemmas.Bool.{cases_lt, le-leb, lt-leb, lt-ltb, le-ltb}
 use Rattle.c_world.specs.Shown.{room_in}
 use Rattle.c_world.specs.declared.region.Region.{Region}
 use Rattle.c_world.specs.declared.region.Region.TheVariants as region
@@ -14,21 +14,21 @@ use Rattle.patmos_sem.specs.declared.effects.Effect.TheVariants as effect
 use Rattle.shared_order.specs.Words.{zeros}
 use Rattle.patmos_model.specs.Begin.{overlaid}
 use Rattle.sp_tree.specs.Begun as tree
-use Rattle.sp_tree.specs.Formed.{all_rooms, first_of}
+use Rattle.sp_tree.specs.Formed.{all_rooms}
 use Rattle.sp_tree.specs.Statements.{PlainUnit}
 use Rattle.sp_tree.specs.Uses.{Use, uses_of, are_apart}
 use Rattle.sp_shape.specs.Memory.{cell_of}
 use Rattle.sp_shape.specs.Run.{Run, Sources}
 use Rattle.sp_shape.specs.Trail.{Step}
 use Rattle.sp_emit.specs.Accesses.{IsReadPlace, IsStoredPlace, MayAsk}
-use Rattle.sp_emit.specs.Expressions.{address_of, cell_space, array_space}
+use Rattle.sp_emit.specs.Expressions.{address_of, cell_space}
 use Rattle.sp_emit.proofs.Aligned.{read_aligned, stored_aligned}
 use Rattle.sp_emit.proofs.Apart.{cached_apart}
 use Rattle.sp_emit.proofs.Cells.{cell_in}
 use Rattle.code_core.specs.Asked.{asks_in}
+use Rattle.task_core.proofs.Places.{no_cached_element, at_variable, at_element, at_read}
 use Rattle.task_words.proofs.Passing.{all_pass}
 use Rattle.code_words.specs.Own.{AreOwn, IsBelow, IsUncached, KeepsApart, AllApart}
-use Rattle.task_core.proofs.Places.{element_at, variable_at}
 
 -- ---- the words that private memory begins with
 
@@ -106,12 +106,6 @@ module _ (u : PlainUnit) (apart_uses : are_apart (uses_of u) ≡ true) where
   abbrev pub Cached : ℕ → Type 0
   Cached address = IsReadPlace Named mem.C address
 
-  no_cached_element : (r : Region) → mem.C ≡ array_space r → ⊥
-  no_cached_element region.Scratch is = let e : mem.C ≡ mem.L = is in cc
-  no_cached_element region.Comm is = let e : mem.C ≡ mem.L = is in cc
-  no_cached_element region.Private is = let e : mem.C ≡ mem.M = is in cc
-  no_cached_element region.Shared is = let e : mem.C ≡ mem.M = is in cc
-
   low_variable : (r : Region) (word address : ℕ) → mem.C ≡ cell_space r → word < room_in r all_rooms → address
       ≡ address_of r word → address / 4 < 49152
   low_variable region.Scratch word address is within at = absurd (let e : mem.C ≡ mem.L = is in cc)
@@ -120,22 +114,15 @@ module _ (u : PlainUnit) (apart_uses : are_apart (uses_of u) ≡ true) where
   low_variable region.Shared word address is within at = absurd (let e : mem.C ≡ mem.M = is in cc)
 
   pub cached_own : AreOwn Cached
-  cached_own address (inl v) =
-      let c = v.0 in
-      let parts = and_parts (nat_le (first_of c.region) c.word) (nat_lt c.word (room_in c.region all_rooms))
-      v.2.formed in
-      low_variable c.region c.word address v.2.space_is (ltb-true c.word (room_in c.region all_rooms) parts.1)
-      v.2.address_is
-  cached_own address (inr (inl v)) = absurd (no_cached_element v.0.region v.2.space_is)
-  cached_own address (inr (inr v)) = absurd (no_cached_element v.0.region v.2.space_is)
+  cached_own address =
+      at_read Named (λ c. address / 4 < 49152) mem.C address
+      (λ c named. low_variable c.region c.word address)
+      (λ a named index is within at. absurd (no_cached_element a.region is))
+      (λ r is. absurd (no_cached_element r is))
 
   cached_stored_low : (address : ℕ) → IsStoredPlace Named mem.C address → address / 4 < 49152
   cached_stored_low address (inl v) =
-      let c = v.0 in
-      let parts = and_parts (nat_le (first_of c.region) c.word) (nat_lt c.word (room_in c.region all_rooms))
-      v.2.formed in
-      low_variable c.region c.word address v.2.space_is (ltb-true c.word (room_in c.region all_rooms) parts.1)
-      v.2.address_is
+      at_variable (λ c. address / 4 < 49152) mem.C address v.0 (low_variable v.0.region v.0.word address) v.2
   cached_stored_low address (inr (inl v)) = absurd (no_cached_element v.0.region v.2.space_is)
   cached_stored_low address (inr (inr (inl v))) = omega (arith, v.address_is)
   cached_stored_low address (inr (inr (inr v))) = absurd (let e : mem.C ≡ mem.L = v.2.space_is in cc)
@@ -145,23 +132,10 @@ module _ (u : PlainUnit) (apart_uses : are_apart (uses_of u) ≡ true) where
   below_cell _ word within = tt
 
   main_below : (address : ℕ) → IsReadPlace Named mem.M address → IsBelow (cell_of mem.M address)
-  main_below address (inl v) =
-      let c = v.0 in
-      let parts = and_parts (nat_le (first_of c.region) c.word) (nat_lt c.word (room_in c.region all_rooms))
-      v.2.formed in
-      let within = ltb-true c.word (room_in c.region all_rooms) parts.1 in
-      subst IsBelow (sym (variable_at c.region c.word mem.M address within v.2.space_is v.2.address_is))
-      (below_cell c.region c.word within)
-  main_below address (inr (inl v)) =
-      let a = v.0 in
-      let parts = and_parts (nat_le (first_of a.region) a.first) (nat_le (a.first + a.length)
-      (room_in a.region all_rooms)) v.2.formed in
-      let within : a.first + v.2.index < room_in a.region all_rooms =
-      omega (arith, v.2.within, leb-true (a.first + a.length) (room_in a.region all_rooms) parts.1) in
-      subst IsBelow (sym (element_at a.region (a.first + v.2.index) mem.M address within v.2.space_is v.2.address_is))
-      (below_cell a.region (a.first + v.2.index) within)
-  main_below address (inr (inr v)) =
-      subst (λ a. IsBelow (cell_of mem.M a)) (sym v.2.address_is) (let low : 0 < 49152 = omega arith in low)
+  main_below address =
+      at_read Named IsBelow mem.M address (λ c named is within at. below_cell c.region c.word within)
+      (λ a named index is within at. below_cell a.region (a.first + index) within)
+      (λ r is. let low : 0 < 49152 = omega arith in low)
 
   -- what is stored past the data cache is never loaded by it
   other_word : (address other : ℕ) → IsStoredPlace Named mem.M address → Cached other → other / 4 ≡ address / 4 → ⊥
@@ -179,20 +153,11 @@ module _ (u : PlainUnit) (apart_uses : are_apart (uses_of u) ≡ true) where
 
   main_uncached : (address : ℕ) → IsStoredPlace Named mem.M address → IsUncached Cached (cell_of mem.M address)
   main_uncached address (inl v) =
-      let c = v.0 in
-      let parts = and_parts (nat_le (first_of c.region) c.word) (nat_lt c.word (room_in c.region all_rooms))
-      v.2.formed in
-      let within = ltb-true c.word (room_in c.region all_rooms) parts.1 in
-      subst (IsUncached Cached) (sym (variable_at c.region c.word mem.M address within v.2.space_is v.2.address_is))
-      (uncached_cell c.region c.word address v.2.address_is (inl v))
+      at_variable (IsUncached Cached) mem.M address v.0
+      (λ is within at. uncached_cell v.0.region v.0.word address at (inl v)) v.2
   main_uncached address (inr (inl v)) =
-      let a = v.0 in
-      let parts = and_parts (nat_le (first_of a.region) a.first) (nat_le (a.first + a.length)
-      (room_in a.region all_rooms)) v.2.formed in
-      let within : a.first + v.2.index < room_in a.region all_rooms =
-      omega (arith, v.2.within, leb-true (a.first + a.length) (room_in a.region all_rooms) parts.1) in
-      subst (IsUncached Cached) (sym (element_at a.region (a.first + v.2.index) mem.M address within v.2.space_is
-      v.2.address_is)) (uncached_cell a.region (a.first + v.2.index) address v.2.address_is (inr (inl v)))
+      at_element (IsUncached Cached) mem.M address v.0
+      (λ index is within at. uncached_cell v.0.region (v.0.first + index) address at (inr (inl v))) v.2
   main_uncached address (inr (inr (inl v))) =
       subst (λ a. IsUncached Cached (cell_of mem.M a)) (sym v.address_is) (λ other cached same. other_word address other
       (inr (inr (inl v))) cached (omega (arith, same, v.address_is)))

@@ -1,16 +1,14 @@
 -- What a task's code asks for of words that other cores reach, its tree names.
-use Rattle.std.proofs.Common.{◌≡◌, ℕ, ◌+◌, ◌*◌, ◌%◌, ◌<◌, ◌^◌, ◌⊎◌, inl, inr, nat_le, nat_lt, List, Some, refl, sym, ap, ◌∙◌, subst, arith}
+use Rattle.std.proofs.Common.{◌≡◌, ℕ, ◌+◌, ◌<◌, ◌⊎◌, inl, inr, List, Some, refl, sym, subst}
 use Rattle.std.specs.List.{AllByRecursion as Each}
-use Rattle.std.proofs.lemmas.Bool.{and_parts, leb-true, ltb-true}
 use Rattle.c_world.specs.Shown.{room_in}
 use Rattle.c_world.specs.declared.region.Region.{Region}
 use Rattle.c_world.specs.declared.region.Region.TheVariants as region
-use Rattle.local_store.specs.declared.map.Cell.TheVariants as cell
 use Rattle.patmos_instr.specs.declared.memories.Mem.{Mem}
 use Rattle.patmos_instr.specs.declared.memories.Mem.TheVariants as mem
 use Rattle.patmos_sem.specs.declared.effects.Effect.{Effect}
 use Rattle.patmos_sem.specs.declared.effects.Effect.TheVariants as effect
-use Rattle.sp_tree.specs.Formed.{all_rooms, first_of}
+use Rattle.sp_tree.specs.Formed.{all_rooms}
 use Rattle.sp_tree.specs.Uses.{Use, sends_to}
 use Rattle.sp_shape.specs.Memory.{cell_of}
 use Rattle.sp_shape.specs.Run.{Run, Sources}
@@ -18,12 +16,11 @@ use Rattle.sp_shape.specs.Trail.{Step}
 use Rattle.sp_emit.specs.Accesses.{IsReadPlace, IsStoredPlace, MayAsk}
 use Rattle.sp_emit.specs.Expressions.{array_space}
 use Rattle.sp_emit.proofs.Cells.{cell_in}
-use Rattle.sp_emit.proofs.Sends.{port_found}
 use Rattle.code_core.specs.Asked.{asks_in}
 use Rattle.task_words.proofs.Passing.{all_pass}
 use Rattle.code_words.specs.May.{MayLoadCell, MayStoreCell, MayReach, AllReach}
 use Rattle.task_words.specs.Reach.{ReadsIn, WritesIn, MayLoadWord, MayStoreWord, MaySendTo}
-use Rattle.task_core.proofs.Places.{variable_at, element_at}
+use Rattle.task_core.proofs.Places.{at_read, at_stored}
 
 module _ (Named : Use → Type 0) (few : (core : ℕ) → Named (sends_to core) → core < 16) (core : ℕ) where
   abbrev Load : ℕ → Type 0
@@ -56,26 +53,11 @@ module _ (Named : Use → Type 0) (few : (core : ℕ) → Named (sends_to core) 
 
   read_place : (space : Mem) (address : ℕ) → IsReadPlace Named space address
       → MayLoadCell Load Store To core (cell_of space address)
-  read_place space address (inl v) =
-      let c = v.0 in
-      let parts = and_parts (nat_le (first_of c.region) c.word) (nat_lt c.word (room_in c.region all_rooms))
-      v.2.formed in
-      let within = ltb-true c.word (room_in c.region all_rooms) parts.1 in
-      subst (MayLoadCell Load Store To core)
-      (sym (variable_at c.region c.word space address within v.2.space_is v.2.address_is))
-      (cell_read c.region c.word within (inl (c, (v.1, refl))))
-  read_place space address (inr (inl v)) =
-      let a = v.0 in
-      let parts = and_parts (nat_le (first_of a.region) a.first) (nat_le (a.first + a.length)
-      (room_in a.region all_rooms)) v.2.formed in
-      let within : a.first + v.2.index < room_in a.region all_rooms =
-      omega (arith, v.2.within, leb-true (a.first + a.length) (room_in a.region all_rooms) parts.1) in
-      subst (MayLoadCell Load Store To core)
-      (sym (element_at a.region (a.first + v.2.index) space address within v.2.space_is v.2.address_is))
-      (cell_read a.region (a.first + v.2.index) within (inr (a, (v.1, refl))))
-  read_place space address (inr (inr v)) =
-      subst (MayLoadCell Load Store To core) (λ i. cell_of (sym v.2.space_is i) (sym v.2.address_is i))
-      (nothing_read v.0.region)
+  read_place space address =
+      at_read Named (MayLoadCell Load Store To core) space address
+      (λ c named is within at. cell_read c.region c.word within (inl (c, (named, refl))))
+      (λ a named index is within at. cell_read a.region (a.first + index) within (inr (a, (named, refl))))
+      (λ r is. subst (λ s. MayLoadCell Load Store To core (cell_of s 0)) (sym is) (nothing_read r))
 
   spare_stored : (space : Mem) → (space ≡ mem.C) ⊎ (space ≡ mem.M) → MayStoreCell Load Store To core (cell_of space 0)
   spare_stored space (inl is) = subst (λ s. MayStoreCell Load Store To core (cell_of s 0)) (sym is) tt
@@ -83,33 +65,11 @@ module _ (Named : Use → Type 0) (few : (core : ℕ) → Named (sends_to core) 
 
   stored_place : (space : Mem) (address : ℕ) → IsStoredPlace Named space address
       → MayStoreCell Load Store To core (cell_of space address)
-  stored_place space address (inl v) =
-      let c = v.0 in
-      let parts = and_parts (nat_le (first_of c.region) c.word) (nat_lt c.word (room_in c.region all_rooms))
-      v.2.formed in
-      let within = ltb-true c.word (room_in c.region all_rooms) parts.1 in
-      subst (MayStoreCell Load Store To core)
-      (sym (variable_at c.region c.word space address within v.2.space_is v.2.address_is))
-      (cell_stored c.region c.word within (inl (c, (v.1, refl))))
-  stored_place space address (inr (inl v)) =
-      let a = v.0 in
-      let parts = and_parts (nat_le (first_of a.region) a.first) (nat_le (a.first + a.length)
-      (room_in a.region all_rooms)) v.2.formed in
-      let within : a.first + v.2.index < room_in a.region all_rooms =
-      omega (arith, v.2.within, leb-true (a.first + a.length) (room_in a.region all_rooms) parts.1) in
-      subst (MayStoreCell Load Store To core)
-      (sym (element_at a.region (a.first + v.2.index) space address within v.2.space_is v.2.address_is))
-      (cell_stored a.region (a.first + v.2.index) within (inr (a, (v.1, refl))))
-  stored_place space address (inr (inr (inl v))) =
-      subst (λ a. MayStoreCell Load Store To core (cell_of space a)) (sym v.address_is) (spare_stored space v.space_is)
-  stored_place space address (inr (inr (inr v))) =
-      let low : v.0 < 16 = few v.0 v.1 in
-      let register = v.2.register in
-      let at : (0x20000 + 16 * v.0 + register * 4) % 2 ^ 32 ≡ address =
-      omega (arith, v.2.address_is, low, v.2.within) in
-      let there : cell_of mem.L address ≡ Some (cell.Port v.0 (4 * register)) =
-      sym (ap (cell_of mem.L) at) ∙ port_found v.0 register low v.2.within in
-      subst (MayStoreCell Load Store To core) (sym (ap (λ s. cell_of s address) v.2.space_is ∙ there)) v.1
+  stored_place space address =
+      at_stored Named (MayStoreCell Load Store To core) space address few
+      (λ c named is within at. cell_stored c.region c.word within (inl (c, (named, refl))))
+      (λ a named index is within at. cell_stored a.region (a.first + index) within (inr (a, (named, refl))))
+      (spare_stored space) (λ core register named within is. named)
 
   reach_ask : (e : Effect) → MayAsk Named e → MayReach Load Store To core e
   reach_ask (effect.Load mem.L width rd address) may = read_place mem.L address may.1

@@ -6,15 +6,15 @@ use Rattle.c_tree.specs.Plain.{plain, plain_item}
 use Rattle.c_tree.specs.Valid.{words_in}
 use Rattle.c_run.proofs.Beginnings.{begun_words}
 use Rattle.c_tree.specs.declared.limits.TheConstants.{MOST_PRIVATE_WORDS}
-use Rattle.c_tree.proofs.Faultless.{private_fits}
+use Rattle.c_tree.proofs.Typing.{typed_of}
 use Rattle.c_meaning.proofs.Fits.{initial_fits, input_within}
 use Rattle.c_run.proofs.begin.private_words.Goals as goal
 
 pub input_place-place-requires : goal.input_place-place-requires
 input_place-place-requires c =
     subst (λ items. words_in false (map plain_item items) ≤ MOST_PRIVATE_WORDS) (sym c.as_slice-items.ensures)
-    (private_fits c.args.program.now.place.cores c.args.program.now.place.core (plain c.args.program.now.unit)
-    c.args.program.now.valid)
+    (typed_of c.args.program.now.place.cores c.args.program.now.place.core (plain c.args.program.now.unit)
+    c.args.program.now.valid).private
 
 pub slice_bounds-lay-end : goal.slice_bounds-lay-end
 slice_bounds-lay-end c = sym (length-take-le c.min-reach.result c.args.input.now (omega (arith, c.min-reach.ensures)))
@@ -28,8 +28,8 @@ lay-requires c =
     let room : c.input_place-place.result.room ≡ (input_of items).room =
     c.input_place-place.ensures.room ∙ ap (λ xs. (input_of xs).room) same in
     let over = length-take-le c.min-reach.result c.args.input.now (omega (arith, c.min-reach.ensures)) in
-    let data_ = private_fits c.args.program.now.place.cores c.args.program.now.place.core items
-    c.args.program.now.valid in
+    let data_ = (typed_of c.args.program.now.place.cores c.args.program.now.place.core items
+    c.args.program.now.valid).private in
     omega (
       arith,
       at,
@@ -54,8 +54,8 @@ returns-clause-words c =
     let words = c.resize.new.self.items in
     let fits = initial_fits c.args.program.now.place.cores c.args.program.now.place.core items
     c.args.program.now.valid in
-    let data_ = private_fits c.args.program.now.place.cores c.args.program.now.place.core items
-    c.args.program.now.valid in
+    let data_ = (typed_of c.args.program.now.place.cores c.args.program.now.place.core items
+    c.args.program.now.valid).private in
     let reach : c.min-reach.result ≡ min (input_of items).room (length c.args.input.now) =
     c.min-reach.ensures ∙ ap (λ r. min r (length c.args.input.now)) room in
     ap slice_index (c.lay.ensures.words ∙ ap (λ k. take k words ++ (over ++ drop (k + length over) words)) at)

@@ -28,7 +28,8 @@ returns-clause-preserves c =
     so_of_tree c.taken_tree.result (plain program.unit)
     (λ u. (input : List ℕ) (shared comm : ℕ → ℕ) → IsMeant (straight u input shared comm) (meaning (plain program.unit)
     input shared comm)) c.taken_tree.ensures
-    (taken_meant program.place.cores program.place.core (plain program.unit) program.valid)
+    (taken_meant program.place.cores program.place.core (plain program.unit) program.place.in_range.cores_most
+    program.valid)
 
 pub returns-clause-cost : goal.returns-clause-cost
 returns-clause-cost c =
